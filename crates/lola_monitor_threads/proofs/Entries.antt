@@ -1,30 +1,44 @@
 -- An entry behind a journal is traced and run, and what becomes of one after another.
-use Rattle.std.proofs.Common.{◌≡◌, ℕ, ◌+◌, ◌<◌, List, [], ◌∷◌, ◌++◌, Option, None, Some, Result, Ok, Err, refl, sym, ap, ◌∙◌, inl, inr, ⊎_elim, arith, append_assoc, subst}
+use Rattle.std.proofs.Common.{◌≡◌, ◌⊎◌, ℕ, ◌+◌, ◌<◌, List, [], ◌∷◌, ◌++◌, Option, None, Some, Result, Ok, Err, refl, sym, ap, ◌∙◌, inl, inr, ⊎_elim, arith, append_assoc, subst}
 use Rattle.std.proofs.lemmas.List.{append-nil}
 use Rattle.std.proofs.lemmas.List.Elements.{All-append, All-push}
+use Rattle.std.specs.Prelude.{OnOk}
 use Rattle.lola_port.specs.States.{PutBroke, SinkState, grown}
-use Rattle.lola_model.specs.Journal.{IsLegal, IsLegalFrom, IsRightlyMarked, opening_time}
+use Rattle.lola_model.specs.Journal.{IsLegalFrom, IsRightlyMarked, time_after}
 use Rattle.lola_model.specs.Faults.{RunFault}
 use Rattle.lola_model.specs.Texts.{text_of}
 use Rattle.lola_model.specs.Trace.{IsTraceable, trace_line, trace_text}
 use Rattle.lola_model.specs.declared.journal.Entry.{Entry}
-use Rattle.lola_model.proofs.Journals.{IsLegalFrom-append_left, IsLegalFrom-append_right, trace_text-append_one}
+use Rattle.lola_model.proofs.Journals.{IsLegalFrom-append_left, IsLegalFrom-append_right, merged_from-append, trace_text-append_one}
 use Rattle.lola_engine.specs.Engines.{Brings}
-use Rattle.lola_monitor_run.specs.Verdicts.{AreOfSources, AreTraceable, IsRowFault, Setting, settled_fault_in, settled_text}
-use Rattle.lola_monitor_run.specs.Running.{CutFaultNext, CutNext, Enters, FaultNext, HasRoom, IsAccepted, IsNext, IsSetAs, Keeping, KeptNext, Puts, StandsNext, Takes, setting_in}
+use Rattle.lola_monitor_run.specs.Verdicts.{AreOfSources, AreTraceable, Setting, settled_fault_in}
+use Rattle.lola_monitor_run.specs.Running.{CutFaultNext, CutNext, Enters, FaultNext, HasRoom, IsAccepted, IsNext, IsSetAs, Keeping, KeptNext, Puts, Takes, WasNotTraced, WasTraced, setting_in}
+use Rattle.lola_monitor_run.specs.Behind.{Beginning, EntersFrom, HasTaken, IsRowFaultBehind, StandsFrom, TakesFromAny, front_of, settled_behind}
+use Rattle.lola_monitor_run.specs.Feeds.{World, world}
 use Rattle.lola_monitor_run.specs.declared.stop.Stop.{Stop}
 use Rattle.lola_monitor_run.specs.declared.stop.Stop.TheVariants as stop
-use Rattle.lola_monitor_run.proofs.Entries.{BringsIn, accepted_is, all_put, cut_at_row, last_not_put, text_more, told_more}
+use Rattle.lola_monitor_run.proofs.Entries.{BringsIn, accepted_is, told_more}
+use Rattle.lola_monitor_run.proofs.Runs.{all_now, fine_now}
 use Rattle.lola_monitor_run.proofs.Sinks.{broke_behind, more_text}
-use Rattle.lola_monitor_run.proofs.Taking.{merged_is}
+use Rattle.lola_monitor_run.proofs.Taking.{accepted_append, late_append}
+use Rattle.lola_monitor_run.proofs.TextsBehind.{HasAll, all_put_behind, cut_at_row_behind, has_all_more, last_not_put_behind, settled_more}
 use Rattle.lola_monitor_threads.specs.Takings.{HasFailed, HasRun, Halts, IsCutAtFault, IsCutInRow, IsFit, IsOutOfMemory, IsStopped, IsPartlyRun, Place, RunsOne, StopsBy, most_taken, place}
 use Rattle.lola_monitor_threads.specs.declared.halt.Halt.{Halt}
 use Rattle.lola_monitor_threads.specs.declared.halt.Halt.TheVariants as halt
 
-module _ (first : Place) (journal : List Entry) (k0 : Keeping) (o0 t0 : SinkState) (so : HasRun first journal (place k0 o0 t0)) (entry : Entry) (told : IsTraceable k0.state.plan entry) where
-  fine_so_far : settled_fault_in (setting_in first.kept) journal ≡ None
-  fine_so_far = ap (λ (s : Setting). settled_fault_in s journal) (sym so.setting) ∙ so.stands.engine.fine
+-- a place, whatever sources there are
+abbrev world_at : Place → World
+world_at p = world p.kept [] p.out p.trace
 
+-- what stood at first has no fault so far, and has lost no line
+module _ (first : Place) (journal : List Entry) (now : Place) (so : HasRun first journal now) (b : Beginning) (stood : StandsFrom b (front_of b) first.kept) where
+  fine_so_far : settled_fault_in (setting_in first.kept) (front_of b ++ journal) ≡ None
+  fine_so_far = fine_now (world_at first) (world_at now) so.setting b journal (so.stands b stood)
+
+  all_so_far : HasAll (setting_in first.kept) (front_of b) journal
+  all_so_far = all_now (world_at first) (world_at now) so.setting b journal (so.stands b stood)
+
+module _ (first : Place) (journal : List Entry) (k0 : Keeping) (o0 t0 : SinkState) (so : HasRun first journal (place k0 o0 t0)) (entry : Entry) (told : IsTraceable k0.state.plan entry) where
   told_first : IsTraceable first.kept.state.plan entry
   told_first = subst (λ (s : Setting). IsTraceable s.plan entry) so.setting told
 
@@ -39,75 +53,130 @@ module _ (first : Place) (journal : List Entry) (k0 : Keeping) (o0 t0 : SinkStat
     inl refl,
     record {
       traceable = so.traceable;
-      by = inl (record {
-        no_fault = fine_so_far;
+      by = λ b stood. inl (record {
+        no_fault = fine_so_far first journal (place k0 o0 t0) so b stood;
         trace = record { entry = entry; traceable = told_first; cut = subst (λ (t : SinkState). PutBroke t t1 (trace_line entry)) so.trace puts };
-        out = so.out;
+        out = so.out b stood;
       });
     },
   )
-  not_traced t1 stop.Memory puts =
-      (journal, inl refl, record { traceable = so.traceable; by = record { trace = puts ∙ so.trace; out = all_put (setting_in first.kept) journal first.out o0 so.out } })
+  not_traced t1 stop.Memory puts = (
+    journal,
+    inl refl,
+    record {
+      traceable = so.traceable;
+      by = λ b stood. record {
+        trace = puts ∙ so.trace;
+        out = all_put_behind (setting_in first.kept) (front_of b) journal first.out o0 (all_so_far first journal (place k0 o0 t0) so b stood) (so.out b stood);
+      };
+    },
+  )
 
   -- an entry's line was put, and it was given to the run
   module _ (k1 : Keeping) (o1 t1 : SinkState) (traced : t1 ≡ grown t0 (trace_line entry)) where
     trace_is : t1 ≡ grown first.trace (trace_text (journal ++ entry ∷ []))
     trace_is = more_text _ _ _ _ _ _ so.trace traced (trace_text-append_one journal entry)
 
-    text_is : (lines : List (List ℕ)) → Brings k0.state journal entry lines → settled_text (setting_in first.kept) (journal ++ entry ∷ []) ≡ settled_text (setting_in first.kept) journal ++ text_of lines
-    text_is lines brings = text_more (setting_in first.kept) journal entry lines (subst (λ (s : Setting). BringsIn s journal entry lines) so.setting brings)
+    module _ (b : Beginning) (stood : StandsFrom b (front_of b) first.kept) where
+      brings_is : (lines : List (List ℕ)) → Brings k0.state (front_of b ++ journal) entry lines → BringsIn (setting_in first.kept) (front_of b ++ journal) entry lines
+      brings_is lines brings = subst (λ (s : Setting). BringsIn s (front_of b ++ journal) entry lines) so.setting brings
 
-    row_fault : (fault : RunFault) → IsAccepted entry → settled_fault_in (setting_in k0) (journal ++ entry ∷ []) ≡ Some fault → IsRowFault (setting_in first.kept) (journal ++ entry ∷ []) fault
-    row_fault fault accepted is = record {
-      front = journal;
-      row = entry.row;
-      whole = ap (λ (e : Entry). journal ++ e ∷ []) (accepted_is entry accepted);
-      none_before = fine_so_far;
-      settled = ap (λ (s : Setting). settled_fault_in s (journal ++ entry ∷ [])) (sym so.setting) ∙ is;
-    }
+      text_is : (lines : List (List ℕ)) → Brings k0.state (front_of b ++ journal) entry lines
+          → settled_behind (setting_in first.kept) (front_of b) (journal ++ entry ∷ []) ≡ settled_behind (setting_in first.kept) (front_of b) journal ++ text_of lines
+      text_is lines brings = settled_more (setting_in first.kept) (front_of b) journal entry lines (brings_is lines brings) (all_so_far first journal (place k0 o0 t0) so b stood)
 
-    ran : StandsNext journal entry k0 k1 o0 o1 → IsSetAs k0 k1 → HasRun first (journal ++ entry ∷ []) (place k1 o1 t1)
-    ran next setting = record { stands = next.stands; setting = setting ∙ so.setting; traceable = all_told; trace = trace_is; out = more_text _ _ _ _ _ _ so.out next.out (text_is next.lines next.brings) }
+      all_is : (lines : List (List ℕ)) → Brings k0.state (front_of b ++ journal) entry lines → HasAll (setting_in first.kept) (front_of b) (journal ++ entry ∷ [])
+      all_is lines brings = has_all_more (setting_in first.kept) (front_of b) journal entry lines (brings_is lines brings) (all_so_far first journal (place k0 o0 t0) so b stood)
 
-    failed : (fault : RunFault) → FaultNext fault journal entry k0 o0 o1 → IsAccepted entry → HasFailed fault first (journal ++ entry ∷ []) (place k1 o1 t1)
-    failed fault bad accepted = record { stands = row_fault fault accepted bad.is_fault; trace = trace_is; out = more_text _ _ _ _ _ _ so.out bad.out (text_is bad.lines bad.brings) }
+      fault_is : (o : Option RunFault) → settled_fault_in (setting_in k0) ((front_of b ++ journal) ++ entry ∷ []) ≡ o → settled_fault_in (setting_in first.kept) (front_of b ++ (journal ++ entry ∷ [])) ≡ o
+      fault_is o is =
+          ap (settled_fault_in (setting_in first.kept)) (sym (append_assoc (front_of b) journal (entry ∷ [])))
+          ∙ (ap (λ (s : Setting). settled_fault_in s ((front_of b ++ journal) ++ entry ∷ [])) (sym so.setting) ∙ is)
 
-    failed_cut : (fault : RunFault) → CutFaultNext fault journal entry k0 o0 o1 → IsAccepted entry → IsCutAtFault fault first (journal ++ entry ∷ []) (place k1 o1 t1)
-    failed_cut fault bad accepted = record {
-      stands = row_fault fault accepted bad.is_fault;
-      trace = trace_is;
-      out = subst (PutBroke first.out o1) (sym (text_is bad.lines bad.brings)) (broke_behind first.out o0 o1 (settled_text (setting_in first.kept) journal) (text_of bad.lines) so.out bad.out);
-    }
+      row_fault : (fault : RunFault) → IsAccepted entry → settled_fault_in (setting_in k0) ((front_of b ++ journal) ++ entry ∷ []) ≡ Some fault
+          → IsRowFaultBehind (setting_in first.kept) (front_of b) (journal ++ entry ∷ []) fault
+      row_fault fault accepted is = record {
+        front = journal;
+        row = entry.row;
+        whole = ap (λ (e : Entry). journal ++ e ∷ []) (accepted_is entry accepted);
+        none_before = fine_so_far first journal (place k0 o0 t0) so b stood;
+        settled = fault_is (Some fault) is;
+      }
 
-    broken : CutNext journal entry k0 o0 o1 → IsAccepted entry → IsCutInRow first (journal ++ entry ∷ []) (place k1 o1 t1)
-    broken c accepted = record {
-      no_fault = ap (λ (s : Setting). settled_fault_in s (journal ++ entry ∷ [])) (sym so.setting) ∙ c.fine;
-      trace = trace_is;
-      out = cut_at_row (setting_in first.kept) journal entry (text_of c.lines) first.out o0 o1 accepted (text_is c.lines c.brings) so.out c.out;
-    }
+      failed : (fault : RunFault) → FaultNext fault (front_of b ++ journal) entry k0 o0 o1 → IsAccepted entry → HasFailed fault (front_of b) first (journal ++ entry ∷ []) (place k1 o1 t1)
+      failed fault bad accepted = record {
+        stands = row_fault fault accepted bad.is_fault;
+        trace = trace_is;
+        out = more_text _ _ _ _ _ _ (so.out b stood) bad.out (text_is bad.lines bad.brings);
+      }
 
-    unput : KeptNext journal entry k0 o0 o1 → IsOutOfMemory first (journal ++ entry ∷ []) (place k1 o1 t1)
-    unput c = record { trace = trace_is; out = last_not_put (setting_in first.kept) journal entry (text_of c.lines) first.out o1 (text_is c.lines c.brings) (c.out ∙ so.out) }
+      failed_cut : (fault : RunFault) → CutFaultNext fault (front_of b ++ journal) entry k0 o0 o1 → IsAccepted entry → IsCutAtFault fault (front_of b) first (journal ++ entry ∷ []) (place k1 o1 t1)
+      failed_cut fault bad accepted = record {
+        stands = row_fault fault accepted bad.is_fault;
+        trace = trace_is;
+        out = subst (PutBroke first.out o1) (sym (text_is bad.lines bad.brings))
+            (broke_behind first.out o0 o1 (settled_behind (setting_in first.kept) (front_of b) journal) (text_of bad.lines) (so.out b stood) bad.out);
+      }
 
-    stopped : (how : Stop) → StopsBy how first (journal ++ entry ∷ []) (place k1 o1 t1) → RunsOne (Err how) first journal entry (place k1 o1 t1)
+      broken : CutNext (front_of b ++ journal) entry k0 o0 o1 → IsAccepted entry → IsCutInRow (front_of b) first (journal ++ entry ∷ []) (place k1 o1 t1)
+      broken c accepted = record {
+        no_fault = fault_is None c.fine;
+        trace = trace_is;
+        out = cut_at_row_behind (setting_in first.kept) (front_of b) journal entry (text_of c.lines) first.out o0 o1 (all_is c.lines c.brings) accepted (text_is c.lines c.brings) (so.out b stood) c.out;
+      }
+
+      unput : KeptNext (front_of b ++ journal) entry k0 o0 o1 → IsOutOfMemory (front_of b) first (journal ++ entry ∷ []) (place k1 o1 t1)
+      unput c = record {
+        trace = trace_is;
+        out = last_not_put_behind (setting_in first.kept) (front_of b) journal entry (text_of c.lines) first.out o1 (all_is c.lines c.brings) (text_is c.lines c.brings) (c.out ∙ so.out b stood);
+      }
+
+    ran : TakesFromAny (Ok tt) entry k0 k1 o0 o1 → HasTaken entry k0 k1 → IsSetAs k0 k1 → HasRun first (journal ++ entry ∷ []) (place k1 o1 t1)
+    ran from taken setting =
+        let more = accepted_append journal (entry ∷ []) in
+        let later = late_append journal (entry ∷ []) in
+        record {
+          setting = setting ∙ so.setting;
+          traceable = all_told;
+          trace = trace_is;
+          going = taken.going;
+          merged = taken.merged ∙ (ap (λ (m : ℕ). time_after m entry) so.merged ∙ sym (merged_from-append first.kept.state.merged journal (entry ∷ [])));
+          rows = omega (arith, taken.rows, so.rows, more);
+          late = omega (arith, taken.late, so.late, later);
+          accepted = omega (arith, taken.accepted, so.accepted, more);
+          stands = λ b stood. subst (λ (j : List Entry). StandsFrom b j k1) (append_assoc (front_of b) journal (entry ∷ [])) (from b (front_of b ++ journal) (so.stands b stood)).stands;
+          out = λ b stood.
+              let next = from b (front_of b ++ journal) (so.stands b stood) in
+              more_text _ _ _ _ _ _ (so.out b stood) next.out (text_is b stood next.lines next.brings);
+        }
+
+    stopped : (how : Stop) → ((b : Beginning) → StandsFrom b (front_of b) first.kept → StopsBy how (front_of b) first (journal ++ entry ∷ []) (place k1 o1 t1)) → RunsOne (Err how) first journal entry (place k1 o1 t1)
     stopped how by = (journal ++ entry ∷ [], inr refl, record { traceable = all_told; by = by })
 
-    ran_one : (result : Result (Unit {0}) Stop) → Takes result entry k0 k1 o0 o1 → RunsOne result first journal entry (place k1 o1 t1)
-    ran_one (Ok done) takes = ran (takes.0 journal so.stands) takes.1
-    ran_one (Err (stop.Fault stream kind time)) takes = stopped (stop.Fault stream kind time) (failed (record { stream = stream; kind = kind; time = time }) (takes.0 journal so.stands) takes.1)
-    ran_one (Err (stop.CutFault stream kind time)) takes = stopped (stop.CutFault stream kind time) (failed_cut (record { stream = stream; kind = kind; time = time }) (takes.0 journal so.stands) takes.1)
-    ran_one (Err stop.Put) takes = stopped stop.Put (inr (broken (takes.0 journal so.stands) takes.1))
-    ran_one (Err stop.Memory) takes = stopped stop.Memory (unput (takes.0 journal so.stands))
+    ran_one : (result : Result (Unit {0}) Stop) → Takes result entry k0 k1 o0 o1 → TakesFromAny result entry k0 k1 o0 o1 → OnOk result (HasTaken entry k0 k1) → RunsOne result first journal entry (place k1 o1 t1)
+    ran_one (Ok done) takes from taken = ran from taken takes.1
+    ran_one (Err (stop.Fault stream kind time)) takes from taken = stopped (stop.Fault stream kind time)
+        (λ b stood. failed b stood (record { stream = stream; kind = kind; time = time }) (from b (front_of b ++ journal) (so.stands b stood)) takes.1)
+    ran_one (Err (stop.CutFault stream kind time)) takes from taken = stopped (stop.CutFault stream kind time)
+        (λ b stood. failed_cut b stood (record { stream = stream; kind = kind; time = time }) (from b (front_of b ++ journal) (so.stands b stood)) takes.1)
+    ran_one (Err stop.Put) takes from taken = stopped stop.Put (λ b stood. inr (broken b stood (from b (front_of b ++ journal) (so.stands b stood)) takes.1))
+    ran_one (Err stop.Memory) takes from taken = stopped stop.Memory (λ b stood. unput b stood (from b (front_of b ++ journal) (so.stands b stood)))
 
 -- an entry was to be traced and run
-pub ran_entered : (first : Place) (journal : List Entry) (k0 k1 : Keeping) (o0 o1 t0 t1 : SinkState) → HasRun first journal (place k0 o0 t0) → (entry : Entry) (result : Result (Unit {0}) Stop) → Enters result entry k0 k1 o0 o1 t0 t1
-    → RunsOne result first journal entry (place k1 o1 t1)
-ran_entered first journal k0 k1 o0 o1 t0 t1 so entry result e = elim e.does [
-  | inl n ↦ subst (λ (r : Result (Unit {0}) Stop). RunsOne r first journal entry (place k1 o1 t1)) (sym n.is)
+module _ (first : Place) (journal : List Entry) (k0 k1 : Keeping) (o0 o1 t0 t1 : SinkState) (so : HasRun first journal (place k0 o0 t0)) (entry : Entry) (result : Result (Unit {0}) Stop) where
+  was_not_traced : IsTraceable k0.state.plan entry → WasNotTraced result entry k0 k1 o0 o1 t0 t1 → RunsOne result first journal entry (place k1 o1 t1)
+  was_not_traced told n =
+      subst (λ (r : Result (Unit {0}) Stop). RunsOne r first journal entry (place k1 o1 t1)) (sym n.is)
       (subst (λ (k : Keeping). RunsOne (Err n.how) first journal entry (place k o1 t1)) (sym n.kept)
-      (subst (λ (o : SinkState). RunsOne (Err n.how) first journal entry (place k0 o t1)) (sym n.out) (not_traced first journal k0 o0 t0 so entry e.told t1 n.how n.puts)))
-  | inr w ↦ ran_one first journal k0 o0 t0 so entry e.told k1 o1 t1 w.trace result w.takes
-]
+      (subst (λ (o : SinkState). RunsOne (Err n.how) first journal entry (place k0 o t1)) (sym n.out) (not_traced first journal k0 o0 t0 so entry told t1 n.how n.puts)))
+
+  pub ran_entered : Enters result entry k0 k1 o0 o1 t0 t1 → EntersFrom result entry k0 k1 o0 o1 t0 t1 → OnOk result (HasTaken entry k0 k1) → RunsOne result first journal entry (place k1 o1 t1)
+  ran_entered e from taken = by_both e.does from
+    where
+      by_both : WasNotTraced result entry k0 k1 o0 o1 t0 t1 ⊎ WasTraced result entry k0 k1 o0 o1 t0 t1 → EntersFrom result entry k0 k1 o0 o1 t0 t1 → RunsOne result first journal entry (place k1 o1 t1)
+      by_both (inl n) f = was_not_traced e.told n
+      by_both (inr w) (inl n) = was_not_traced e.told n
+      by_both (inr w) (inr f) = ran_one first journal k0 o0 t0 so entry e.told k1 o1 t1 w.trace result w.takes f.takes taken
 
 -- one entry more, of one of so many sources
 of_sources_more : (count : ℕ) (journal : List Entry) (entry : Entry) → AreOfSources count journal → entry.row.source < count → AreOfSources count (journal ++ entry ∷ [])
@@ -159,8 +228,8 @@ more_behind halt.Unfit count first front behind whole now is h = record {
 -- the next entry is rightly marked
 pub next_marked : (now : Place) (entry : Entry) (more : List Entry) → IsPartlyRun now (entry ∷ more) → IsNext now.kept entry
 next_marked now entry more way =
-    let legal = IsLegalFrom-append_right (opening_time now.kept.state.given_start) way.journal (entry ∷ more) way.marked in
-    subst (λ t. IsRightlyMarked t entry) (sym (merged_is way.journal now.kept way.run.stands)) legal.0
+    let legal = IsLegalFrom-append_right way.first.kept.state.merged way.journal (entry ∷ more) way.marked in
+    subst (λ t. IsRightlyMarked t entry) (sym way.run.merged) legal.0
 
 -- the next entry alone
 pub way_to_next : (now : Place) (entry : Entry) (more : List Entry) → IsPartlyRun now (entry ∷ more) → IsPartlyRun now (entry ∷ [])
@@ -168,26 +237,26 @@ way_to_next now entry more way = record {
   first = way.first;
   journal = way.journal;
   run = way.run;
-  marked = IsLegalFrom-append_left (opening_time now.kept.state.given_start) (way.journal ++ entry ∷ []) more
-      (subst (IsLegalFrom (opening_time now.kept.state.given_start)) (sym (append_assoc way.journal (entry ∷ []) more)) way.marked);
+  marked = IsLegalFrom-append_left way.first.kept.state.merged (way.journal ++ entry ∷ []) more
+      (subst (IsLegalFrom way.first.kept.state.merged) (sym (append_assoc way.journal (entry ∷ []) more)) way.marked);
 }
 
 -- the way goes on behind an entry
 pub way_on : (now next : Place) (entry : Entry) (more : List Entry) → IsPartlyRun now (entry ∷ more) → ((first : Place) (journal : List Entry) → HasRun first journal now → HasRun first (journal ++ entry ∷ []) next)
-    → IsSetAs now.kept next.kept → IsPartlyRun next more
-way_on now next entry more way goes setting = record {
+    → IsPartlyRun next more
+way_on now next entry more way goes = record {
   first = way.first;
   journal = way.journal ++ entry ∷ [];
   run = goes way.first way.journal way.run;
-  marked = subst (λ (o : Option ℕ). IsLegal o ((way.journal ++ entry ∷ []) ++ more)) (sym (ap (λ (s : Setting). s.start) setting))
-      (subst (IsLegalFrom (opening_time now.kept.state.given_start)) (sym (append_assoc way.journal (entry ∷ []) more)) way.marked);
+  marked = subst (IsLegalFrom way.first.kept.state.merged) (sym (append_assoc way.journal (entry ∷ []) more)) way.marked;
 }
 
 -- a run that may count one row more has room for it
 pub has_room : (now : Place) (more : List Entry) → IsPartlyRun now more → now.kept.accepted + now.kept.late < most_taken → HasRoom now.kept
 has_room now more way few =
-    let rows : now.kept.state.rows ≡ now.kept.accepted = way.run.stands.engine.rows ∙ sym way.run.stands.accepted in
-    record { engine = omega arith; rows = omega arith }
+    let rows = way.run.rows in
+    let counted = way.run.accepted in
+    record { engine = omega (arith, rows, counted, few); rows = omega (arith, few) }
 
 -- some entries were run one after another, and these are left
 pub record RanSome (count : ℕ) (old new : Place) (all left : List Entry) : Type 0 where

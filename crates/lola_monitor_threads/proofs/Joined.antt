@@ -7,7 +7,7 @@ use Rattle.std.specs.Prelude.{OnOk, slice_get}
 use Rattle.std.specs.List.{AllZip}
 use Rattle.lola_value.specs.declared.value.Kind.{Kind}
 use Rattle.lola_port.specs.States.{SinkState}
-use Rattle.lola_model.specs.Journal.{IsLegal, opening_time, rows_of}
+use Rattle.lola_model.specs.Journal.{IsLegal, IsLegalFrom, opening_time, rows_of}
 use Rattle.lola_model.specs.Trace.{IsFieldOf}
 use Rattle.lola_model.specs.declared.plan.Plan.{Plan}
 use Rattle.lola_model.specs.declared.journal.Row.{Row}
@@ -99,7 +99,7 @@ module _ (plan : Plan) (start : Option ℕ) (olds news : List Working) (seats : 
   none_left : taker.done ≡ true → left ≡ []
   none_left done = j.whole.done done (λ s p at. (from_at s p at).2.in_order)
 
-  module _ (first now : Keeping) (out0 out1 trace0 trace1 : SinkState) (given_start : first.state.given_start ≡ start) (made : first.state.plan ≡ plan) where
+  module _ (first now : Keeping) (out0 out1 trace0 trace1 : SinkState) (opens : opening_time start ≡ first.state.merged) (made : first.state.plan ≡ plan) where
     abbrev from : Place
     from = place first out0 trace0
 
@@ -111,7 +111,7 @@ module _ (plan : Plan) (start : Option ℕ) (olds news : List Working) (seats : 
         let whole : journal ≡ taker.taken = ap (λ (l : List Entry). taker.taken ++ l) (none_left done) ∙ append-nil taker.taken in
         record {
           journal = taker.taken;
-          legal = subst (λ (o : Option ℕ). IsLegal o taker.taken) (sym given_start) (IsLegalFrom-append_left (opening_time start) taker.taken left legal);
+          legal = subst (λ (m : ℕ). IsLegalFrom m taker.taken) opens (IsLegalFrom-append_left (opening_time start) taker.taken left legal);
           sources = subst (λ (n : ℕ). AreOfSources n taker.taken) (sym (length-map olds supply_of)) sources;
           run = run;
           many = length-map news supply_of ∙ (j.many ∙ sym (length-map olds supply_of));
@@ -134,7 +134,7 @@ module _ (plan : Plan) (start : Option ℕ) (olds news : List Working) (seats : 
         let whole : journal ≡ stopped.front ++ (stopped.behind ++ left) = ap (λ (l : List Entry). l ++ left) stopped.joined ∙ append_assoc stopped.front stopped.behind left in
         record {
           journal = stopped.front;
-          legal = subst (λ (o : Option ℕ). IsLegal o stopped.front) (sym given_start) (IsLegalFrom-append_left (opening_time start) stopped.front (stopped.behind ++ left) (subst (IsLegal start) whole legal));
+          legal = subst (λ (m : ℕ). IsLegalFrom m stopped.front) opens (IsLegalFrom-append_left (opening_time start) stopped.front (stopped.behind ++ left) (subst (IsLegal start) whole legal));
           sources = subst (λ (n : ℕ). AreOfSources n stopped.front) (sym (length-map olds supply_of)) stopped.sources;
           begun = λ s old was.
               let w0 = from_mapped supply_of olds s old was in
@@ -178,8 +178,8 @@ module _ (plan : Plan) (start : Option ℕ) (olds news : List Working) (seats : 
         let whole : journal ≡ u.front ++ u.entry ∷ behind = ap (λ (l : List Entry). l ++ left) u.joined ∙ append_assoc u.front (u.entry ∷ u.behind) left in
         let long : length journal ≡ length u.front + length (u.entry ∷ behind) = ap length whole ∙ length-append u.front (u.entry ∷ behind) in
         let counted = all_counted u.front in
-        let a = u.run.stands.accepted in
-        let l = u.run.stands.late in
+        let a = u.run.accepted in
+        let l = u.run.late in
         let few = few_entries in
         u.unfit (record {
           source = All-head (λ (e : Entry). e.row.source < length olds) u.entry behind (all_behind (λ (e : Entry). e.row.source < length olds) u.front (u.entry ∷ behind) (subst (AreOfSources (length olds)) whole theirs));

@@ -1,12 +1,12 @@
 -- One take more at an intake, and what was taken.
-use Rattle.std.proofs.Common.{◌≡◌, ℕ, true, Option, Result, Ok, List, ◌++◌, refl, sym, ap, ◌∙◌, subst}
+use Rattle.std.proofs.Common.{◌≡◌, ℕ, true, Result, Ok, List, ◌++◌, refl, sym, ap, ◌∙◌, subst}
 use Rattle.lola_model.specs.declared.journal.Entry.{Entry}
 use Rattle.lola_model.specs.Journal.{IsLegalFrom, opening_time}
 use Rattle.lola_merge.specs.declared.state.Take.{Take}
 use Rattle.lola_merge.specs.declared.state.Take.TheVariants.{AllDone}
-use Rattle.lola_feed.specs.SharedIntakes.{IntakeId, IsAnswered, TakerShown, Takes}
+use Rattle.lola_feed.specs.SharedIntakes.{IsAnswered, TakerShown, Takes}
 use Rattle.lola_monitor_run.specs.Verdicts.{AreOfSources}
-use Rattle.lola_monitor_threads.specs.Takings.{GoesOn, Halts, HasRun, InputsOf, IsReady, IsSameTaker, IsPartlyRun, Place, Taking}
+use Rattle.lola_monitor_threads.specs.Takings.{GoesOn, Halts, HasRun, HasRunTaken, InputsOf, IsSameTaker, IsPartlyRun, Place, Taking}
 use Rattle.lola_monitor_threads.specs.declared.halt.Halt.{Halt}
 
 -- a take that is answered that all is done shows so
@@ -40,12 +40,12 @@ module _ (taking : Taking) (seat after : TakerShown) (inputs : InputsOf) (batch 
   taken_is = takes.taken ∙ ap (λ (k : Taking). k.seat.taken ++ rows) is
 
   -- what was taken before was run, so these come next
-  pub rows_next : (intake : IntakeId) (now : Place) → IsReady taking intake now.kept → (first : Place) → HasRun first taking.seat.taken now → IsPartlyRun now rows
-  rows_next intake now ready first run = record {
-    first = first;
+  pub rows_next : (now : Place) → HasRunTaken taking now → IsPartlyRun now rows
+  rows_next now so = record {
+    first = so.first;
     journal = taking.seat.taken;
-    run = run;
-    marked = subst (λ (o : Option ℕ). IsLegalFrom (opening_time o) (taking.seat.taken ++ rows)) (ap (λ (k : Taking). k.seat.start) is ∙ ready.start) (subst (IsLegalFrom (opening_time seat.start)) taken_is takes.marked);
+    run = so.run;
+    marked = subst (λ (m : ℕ). IsLegalFrom m (taking.seat.taken ++ rows)) (ap (λ (k : Taking). opening_time k.seat.start) is ∙ so.opens) (subst (IsLegalFrom (opening_time seat.start)) taken_is takes.marked);
   }
 
   -- what became of all that was taken
@@ -64,6 +64,10 @@ module _ (taking : Taking) (seat after : TakerShown) (inputs : InputsOf) (batch 
 
   pub marked_after : IsLegalFrom (opening_time taking.seat.start) after.taken
   marked_after = subst (λ (k : Taking). IsLegalFrom (opening_time k.seat.start) after.taken) is takes.marked
+
+-- all that was taken so far was run
+pub taken_on : (old new : Taking) (now next : Place) → IsSameTaker old.seat new.seat → HasRunTaken old now → ((first : Place) → HasRun first old.seat.taken now → HasRun first new.seat.taken next) → HasRunTaken new next
+taken_on old new now next same so goes = record { first = so.first; opens = ap opening_time same.start ∙ so.opens; run = goes so.first so.run }
 
 -- what was taken and run goes on
 pub halts_on : (result : Result (Unit {0}) Halt) (count mid : ℕ) (first : Place) (taken more : List Entry) (now next : Place) → mid ≡ count

@@ -1,6 +1,6 @@
 -- What a run comes to, once the threads of its sources were joined.
 use Rattle.std.specs.Prelude.{◌≡◌, ◌<◌, ◌≤◌, ℕ, List, Option, None, Some, Result, Ok, Err, length, slice_get, All}
-use Rattle.lola_model.specs.Journal.{IsLegal, rows_of}
+use Rattle.lola_model.specs.Journal.{IsLegalFrom, rows_of}
 use Rattle.lola_model.specs.declared.journal.Row.{Row}
 use Rattle.lola_model.specs.declared.journal.Entry.{Entry}
 use Rattle.lola_feed.specs.declared.worker.SourceEnd.{SourceEnd}
@@ -39,7 +39,7 @@ pub record HasCome (old new : Supply) (rows : List Row) : Type 0 where
 -- all rows of all sources stand in a journal, and were run
 pub record AllCame (first last : World) : Type 0 where
   pub journal : List Entry
-  pub legal : IsLegal first.kept.state.given_start journal
+  pub legal : IsLegalFrom first.kept.state.merged journal
   pub sources : AreOfSources (length first.sources) journal
   pub run : HasRun (place_in first) journal (place_in last)
   pub many : length last.sources ≡ length first.sources
@@ -48,7 +48,7 @@ pub record AllCame (first last : World) : Type 0 where
 -- the first rows of the sources stand in a journal, at which the run was stopped
 pub record SomeCame (how : Stop) (first last : World) : Type 0 where
   pub journal : List Entry
-  pub legal : IsLegal first.kept.state.given_start journal
+  pub legal : IsLegalFrom first.kept.state.merged journal
   pub sources : AreOfSources (length first.sources) journal
   pub begun : HaveBegun first.sources journal
   pub stops : StopsAt how (place_in first) journal (place_in last)

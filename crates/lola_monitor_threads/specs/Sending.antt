@@ -5,7 +5,7 @@ use Rattle.lola_model.specs.Journal.{IsLegal}
 use Rattle.lola_feed.specs.SharedIntakes.{IntakeId}
 use Rattle.lola_monitor_run.specs.Verdicts.{AreOfSources}
 use Rattle.lola_monitor_threads.specs.Seated.{AreAt, Seated, WentOn}
-use Rattle.lola_monitor_threads.specs.Takings.{Halts, HasRun, IsReady, IsSameTaker, Place, Taking}
+use Rattle.lola_monitor_threads.specs.Takings.{Halts, HasRun, HasRunTaken, IsReady, IsSameTaker, Place, Taking}
 use Rattle.lola_monitor_threads.specs.Joining.{HaveFlags}
 use Rattle.lola_monitor_threads.specs.declared.halt.Halt.{Halt}
 
@@ -19,7 +19,7 @@ pub record MaySend (id : IntakeId) (flags : ℕ) (waiting here back : List Seate
   pub have_flags : HaveFlags flags waiting
   pub fit_here : length waiting ≤ room_here
   pub fit_back : length waiting ≤ room_back
-  pub run : (first : Place) × HasRun first taker.seat.taken now
+  pub run : HasRunTaken taker now
 
 -- All have come back, each of which went on. What was taken was run, until all was done or the run was halted.
 pub record HasSent (halted : Result (Unit {0}) Halt) (waiting came : List Seated) (old new : Taking) (before after : Place) : Type 0 where

@@ -1,14 +1,15 @@
 -- What the engine's thread takes out of an intake, and what becomes of it.
-use Rattle.std.specs.Prelude.{◌≡◌, ◌⊎◌, ◌+◌, ◌<◌, ◌^◌, ℕ, Bool, List, [], ◌∷◌, ◌++◌, None, Result, Ok, Err}
+use Rattle.std.specs.Prelude.{◌≡◌, ◌⊎◌, ◌+◌, ◌<◌, ◌≤◌, ◌^◌, ℕ, Bool, List, [], ◌∷◌, ◌++◌, None, Option, Result, Ok, Err, length}
 use Rattle.lola_port.specs.States.{PutBroke, SinkState, grown}
 use Rattle.lola_value.specs.declared.value.Kind.{Kind}
 use Rattle.lola_model.specs.Faults.{RunFault}
-use Rattle.lola_model.specs.Journal.{IsLegal}
+use Rattle.lola_model.specs.Journal.{IsLegalFrom, accepted, merged_from, opening_time}
 use Rattle.lola_model.specs.Trace.{input_kinds, trace_text}
 use Rattle.lola_model.specs.declared.journal.Entry.{Entry}
-use Rattle.lola_feed.specs.SharedIntakes.{IntakeId, TakerShown}
-use Rattle.lola_monitor_run.specs.Verdicts.{AreOfSources, AreTraceable, HasFront, IsCutAtRow, IsCutInLine, IsRowFault, settled_fault_in, settled_text}
-use Rattle.lola_monitor_run.specs.Running.{IsRowFor, IsSetAs, Keeping, Stands, setting_in}
+use Rattle.lola_feed.specs.SharedIntakes.{IntakeId, TakerShown, new_taker}
+use Rattle.lola_monitor_run.specs.Verdicts.{AreOfSources, AreTraceable, IsCutInLine, late_count, settled_fault_in}
+use Rattle.lola_monitor_run.specs.Running.{IsGoing, IsRowFor, IsSetAs, Keeping, setting_in}
+use Rattle.lola_monitor_run.specs.Behind.{Beginning, HasFrontBehind, IsCutAtRowBehind, IsRowFaultBehind, StandsFrom, front_of, settled_behind}
 use Rattle.lola_monitor_run.specs.declared.stop.Stop.{Stop}
 use Rattle.lola_monitor_run.specs.declared.stop.Stop.TheVariants as stop
 use Rattle.lola_monitor_threads.specs.declared.halt.Halt.{Halt}
@@ -23,54 +24,60 @@ pub record Place : Type 0 where
 abbrev pub place : Keeping → SinkState → SinkState → Place
 place kept out trace = record { kept = kept; out = out; trace = trace }
 
--- the entries of a journal were traced and run, from a place on
+-- the entries of a journal were counted, traced and run, from a place on. Whatever the run stood for there, it stands for them behind
+-- it, and their verdicts were put
 pub record HasRun (first : Place) (journal : List Entry) (now : Place) : Type 0 where
-  pub stands : Stands journal now.kept
   pub setting : IsSetAs first.kept now.kept
   pub traceable : AreTraceable first.kept.state.plan journal
   pub trace : now.trace ≡ grown first.trace (trace_text journal)
-  pub out : now.out ≡ grown first.out (settled_text (setting_in first.kept) journal)
+  pub going : IsGoing now.kept
+  pub merged : now.kept.state.merged ≡ merged_from first.kept.state.merged journal
+  pub rows : now.kept.state.rows ≤ length (accepted journal) + 1
+  pub late : now.kept.late ≡ late_count journal
+  pub accepted : now.kept.accepted ≡ length (accepted journal)
+  pub stands : (b : Beginning) → StandsFrom b (front_of b) first.kept → StandsFrom b (front_of b ++ journal) now.kept
+  pub out : (b : Beginning) → StandsFrom b (front_of b) first.kept → now.out ≡ grown first.out (settled_behind (setting_in first.kept) (front_of b) journal)
 
 -- the last of them has a fault
-pub record HasFailed (fault : RunFault) (first : Place) (journal : List Entry) (now : Place) : Type 0 where
-  pub stands : IsRowFault (setting_in first.kept) journal fault
+pub record HasFailed (fault : RunFault) (before : List Entry) (first : Place) (journal : List Entry) (now : Place) : Type 0 where
+  pub stands : IsRowFaultBehind (setting_in first.kept) before journal fault
   pub trace : now.trace ≡ grown first.trace (trace_text journal)
-  pub out : now.out ≡ grown first.out (settled_text (setting_in first.kept) journal)
+  pub out : now.out ≡ grown first.out (settled_behind (setting_in first.kept) before journal)
 
 -- the last of them has a fault, and the lines before it were cut short
-pub record IsCutAtFault (fault : RunFault) (first : Place) (journal : List Entry) (now : Place) : Type 0 where
-  pub stands : IsRowFault (setting_in first.kept) journal fault
+pub record IsCutAtFault (fault : RunFault) (before : List Entry) (first : Place) (journal : List Entry) (now : Place) : Type 0 where
+  pub stands : IsRowFaultBehind (setting_in first.kept) before journal fault
   pub trace : now.trace ≡ grown first.trace (trace_text journal)
-  pub out : PutBroke first.out now.out (settled_text (setting_in first.kept) journal)
+  pub out : PutBroke first.out now.out (settled_behind (setting_in first.kept) before journal)
 
 -- the line of one entry more was cut short: the verdicts of all of them were put, and none has a fault
-pub record IsCutInTrace (first : Place) (journal : List Entry) (now : Place) : Type 0 where
-  pub no_fault : settled_fault_in (setting_in first.kept) journal ≡ None
+pub record IsCutInTrace (before : List Entry) (first : Place) (journal : List Entry) (now : Place) : Type 0 where
+  pub no_fault : settled_fault_in (setting_in first.kept) (before ++ journal) ≡ None
   pub trace : IsCutInLine first.kept.state.plan first.trace now.trace journal
-  pub out : now.out ≡ grown first.out (settled_text (setting_in first.kept) journal)
+  pub out : now.out ≡ grown first.out (settled_behind (setting_in first.kept) before journal)
 
 -- the verdicts of the last of them were cut short, and none has a fault
-pub record IsCutInRow (first : Place) (journal : List Entry) (now : Place) : Type 0 where
-  pub no_fault : settled_fault_in (setting_in first.kept) journal ≡ None
+pub record IsCutInRow (before : List Entry) (first : Place) (journal : List Entry) (now : Place) : Type 0 where
+  pub no_fault : settled_fault_in (setting_in first.kept) (before ++ journal) ≡ None
   pub trace : now.trace ≡ grown first.trace (trace_text journal)
-  pub out : IsCutAtRow (setting_in first.kept) first.out now.out journal
+  pub out : IsCutAtRowBehind (setting_in first.kept) before first.out now.out journal
 
 -- there was no memory: they were traced, and a front of their verdicts was put
-pub record IsOutOfMemory (first : Place) (journal : List Entry) (now : Place) : Type 0 where
+pub record IsOutOfMemory (before : List Entry) (first : Place) (journal : List Entry) (now : Place) : Type 0 where
   pub trace : now.trace ≡ grown first.trace (trace_text journal)
-  pub out : HasFront (setting_in first.kept) first.out now.out journal
+  pub out : HasFrontBehind (setting_in first.kept) before first.out now.out journal
 
--- what stopped a run at a journal, and what was put
-abbrev pub StopsBy : Stop → Place → List Entry → Place → Type 0
-StopsBy (stop.Fault stream kind time) first journal now = HasFailed (record { stream = stream; kind = kind; time = time }) first journal now
-StopsBy (stop.CutFault stream kind time) first journal now = IsCutAtFault (record { stream = stream; kind = kind; time = time }) first journal now
-StopsBy stop.Put first journal now = IsCutInTrace first journal now ⊎ IsCutInRow first journal now
-StopsBy stop.Memory first journal now = IsOutOfMemory first journal now
+-- what stopped a run at a journal behind a front that it stood for at first, and what was put
+abbrev pub StopsBy : Stop → List Entry → Place → List Entry → Place → Type 0
+StopsBy (stop.Fault stream kind time) before first journal now = HasFailed (record { stream = stream; kind = kind; time = time }) before first journal now
+StopsBy (stop.CutFault stream kind time) before first journal now = IsCutAtFault (record { stream = stream; kind = kind; time = time }) before first journal now
+StopsBy stop.Put before first journal now = IsCutInTrace before first journal now ⊎ IsCutInRow before first journal now
+StopsBy stop.Memory before first journal now = IsOutOfMemory before first journal now
 
--- how a run is stopped at a journal
+-- how a run is stopped at a journal, whatever it stood for at first
 pub record StopsAt (how : Stop) (first : Place) (journal : List Entry) (now : Place) : Type 0 where
   pub traceable : AreTraceable first.kept.state.plan journal
-  pub by : StopsBy how first journal now
+  pub by : (b : Beginning) → StandsFrom b (front_of b) first.kept → StopsBy how (front_of b) first journal now
 
 -- an entry behind a journal was traced and run, or what stopped the run at it
 abbrev pub RunsOne : Result (Unit {0}) Stop → Place → List Entry → Entry → Place → Type 0
@@ -96,12 +103,23 @@ pub record Taking : Type 0 where
   pub inputs : InputsOf
   pub batch : List Entry
 
--- it takes rows of an intake for a run: nothing is in its batch, and it was made for the run's plan and start
+-- it takes rows of an intake for a run: nothing is in its batch, and it was made for the run's plan
 pub record IsReady (taking : Taking) (intake : IntakeId) (kept : Keeping) : Type 0 where
   pub own : taking.seat.intake ≡ intake
   pub kinds : taking.inputs.kinds ≡ input_kinds kept.state.plan.spec.streams
-  pub start : taking.seat.start ≡ kept.state.given_start
   pub empty : taking.batch ≡ []
+
+-- all that was taken so far was run, in a run whose merged time was at first that from which on the intake marks rows
+pub record HasRunTaken (taking : Taking) (now : Place) : Type 0 where
+  pub first : Place
+  pub opens : opening_time taking.seat.start ≡ first.kept.state.merged
+  pub run : HasRun first taking.seat.taken now
+
+-- what so many sources of a run give is taken with this before the first row: rows are marked from the run's merged time on
+pub record IsNewTaker (intake : IntakeId) (count : ℕ) (kept : Keeping) (taking : Taking) : Type 0 where
+  pub start : Option ℕ
+  pub opens : opening_time start ≡ kept.state.merged
+  pub made : taking ≡ record { seat = new_taker intake count start; inputs = record { count = count; kinds = input_kinds kept.state.plan.spec.streams }; batch = [] }
 
 -- a taker's seat stays that of its intake, with as many sources, and from when on
 pub record IsSameTaker (old new : TakerShown) : Type 0 where
@@ -144,7 +162,7 @@ pub record IsPartlyRun (now : Place) (more : List Entry) : Type 0 where
   pub first : Place
   pub journal : List Entry
   pub run : HasRun first journal now
-  pub marked : IsLegal now.kept.state.given_start (journal ++ more)
+  pub marked : IsLegalFrom first.kept.state.merged (journal ++ more)
 
 -- what a take came to, whether or not all is done
 abbrev pub was_taken : Result Bool Halt → Result (Unit {0}) Halt

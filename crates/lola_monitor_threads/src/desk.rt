@@ -2,11 +2,11 @@
 ghost use Rattle.std.specs.Prelude.{◌≡◌};
 ghost use Rattle.lola_monitor_threads.specs.Seated.{WentOn};
 
+use crate::board::Board;
 use crate::seated::{SeatedWorker, begin_or_look_at, settle_at, turn_at};
 use lola_feed::SeatDesk;
 use lola_feed::intake::{IntakeSeat, SourceIntake};
 use lola_feed::worker::{SourceWorker, TurnEnd};
-use lola_monitor_board::Board;
 use lola_port::{Gate, Source};
 use std::marker::Model;
 use std::sync::Wait;

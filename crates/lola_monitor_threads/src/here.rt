@@ -4,10 +4,10 @@ ghost use Rattle.std.specs.Prelude.{◌≡◌, ◌<◌, length, vec_capacity};
 ghost use Rattle.std.specs.List.{AllZip};
 ghost use Rattle.lola_monitor_threads.specs.Seated.{WentOn};
 
+use crate::board::Board;
 use crate::desk::DeskWorker;
 use crate::seated::SeatedWorker;
 use lola_feed::intake::{IntakeSeat, SourceIntake};
-use lola_monitor_board::Board;
 use lola_port::{Gate, Source};
 use std::sync::Wait;
 

@@ -1,15 +1,20 @@
 //! A run whose sources are read by the calling thread or on threads of their own.
-ghost use Rattle.std.specs.Prelude.{◌≡◌, ◌≤◌, ◌↔◌, [], Err, Some, IfOk, IsTrue, OnOk, false, length, map, reverse, vec_capacity};
+ghost use Rattle.std.specs.Prelude.{◌≡◌, ◌≤◌, ◌↔◌, List, [], Err, Some, IfOk, IsTrue, OnOk, false, length, map, reverse, vec_capacity};
 ghost use Rattle.std.specs.List.{AllZip};
 ghost use Rattle.lola_port.specs.States.{SinkState};
+ghost use Rattle.lola_model.specs.Journal.{opening_time};
 ghost use Rattle.lola_model.specs.Trace.{input_kinds};
+ghost use Rattle.lola_model.specs.declared.journal.Entry.{Entry};
 ghost use Rattle.lola_feed.specs.SharedIntakes.{AreNewSeats, new_taker};
 ghost use Rattle.lola_monitor_run.specs.Running.{IsGoing, Stands, keeping};
 ghost use Rattle.lola_monitor_run.specs.Feeds.{AreInPlace, AreReady, EndsRun, World, supply_of, world};
+ghost use Rattle.lola_monitor_run.specs.Behind.{EndsBehind, HasTakenNone, IsBehind};
 ghost use Rattle.lola_monitor_threads.specs.Joining.{Joins};
 ghost use Rattle.lola_monitor_threads.specs.Seated.{IsNewPair, SomeOutOfMemory, all_seated};
+ghost use Rattle.lola_monitor_threads.specs.Takings.{IsNewTaker};
 ghost use Rattle.lola_monitor_threads.specs.declared.halt.Halt.TheVariants as halt;
 
+use crate::board::Board;
 use crate::fit::RunInputs;
 use crate::halt::Halt;
 use crate::here::are_all_here;
@@ -21,8 +26,7 @@ use lola_feed::intake::{IntakeSeat, IntakeTaker, SharedIntake};
 use lola_feed::worker::{SourceEnd, SourceWorker};
 use lola_merge::batch::Batch;
 use lola_model::plan::Plan;
-use lola_monitor_board::Board;
-use lola_monitor_run::rounds_law::stopped_runs_end;
+use lola_monitor_run::rounds_law::{stopped_runs_end, stopped_runs_end_behind};
 use lola_monitor_run::rows::run_out;
 use lola_monitor_run::run::Run;
 use lola_monitor_run::stop::Stop;
@@ -183,7 +187,7 @@ fn any_out_of_memory<S: Source>(workers: &[SourceWorker<S>]) -> bool
     false
 }
 
-// What a run ends with, once all rows of its sources came or it was stopped, and all threads were joined.
+// What a run ends with, whatever it stood for at first, once all rows of its sources came or it was stopped, and all threads were joined.
 fn settle<R: Threads + Sync, S: Source, K: Sink, G: Gate + Sync>(
     rt: &R,
     run: &mut Run,
@@ -195,7 +199,10 @@ fn settle<R: Threads + Sync, S: Source, K: Sink, G: Gate + Sync>(
     requires going { OnOk halted (IsGoing (keeping run.old)) }
     requires fit { halted ≡ Err halt.Unfit → ⊥ }
     ensures run { (first : World) (trace : SinkState) → Joins halted first (world (keeping run.old) (map supply_of workers.now) (K.state out.old) trace)
-        → EndsRun false result first (world (keeping run.new) (map supply_of workers.now) (K.state out.new) trace) }
+        → Stands [] first.kept → EndsRun false result first (world (keeping run.new) (map supply_of workers.now) (K.state out.new) trace) }
+    ensures behind { (first : World) (trace : SinkState) → Joins halted first (world (keeping run.old) (map supply_of workers.now) (K.state out.old) trace)
+        → (before : List Entry) → IsBehind before before first.kept
+        → EndsBehind false before result first (world (keeping run.new) (map supply_of workers.now) (K.state out.new) trace) }
     ensures plan { (keeping run.new).state.plan ≡ (keeping run.old).state.plan }
 {
     match halted {
@@ -207,6 +214,7 @@ fn settle<R: Threads + Sync, S: Source, K: Sink, G: Gate + Sync>(
         }
         Err(Halt::Stopped(stop)) => {
             stopped_runs_end();
+            stopped_runs_end_behind();
             Err(stop)
         }
         Err(Halt::Unfit) => unreachable!(),
@@ -233,15 +241,18 @@ fn run_room<
     trace: &mut T,
     gate: &G,
 ) -> (Vec<SourceWorker<S>>, Result<(), Stop>)
-    requires stands { Stands [] (keeping run.old) }
+    requires none { HasTakenNone (keeping run.old) }
     requires ready { AreReady (keeping run.old).state.plan workers.items }
-    requires taker { room.taker ≡ record { seat = new_taker (I.id room.intake) (length workers.items) (keeping run.old).state.given_start; inputs = record { count = length workers.items; kinds = input_kinds (keeping run.old).state.plan.spec.streams }; batch = [] } }
+    requires taker { IsNewTaker (I.id room.intake) (length workers.items) (keeping run.old) room.taker }
     requires seats { AreNewSeats (I.id room.intake) (length workers.items) (map P.shows room.seats.items) }
     requires flags { length room.flags.items ≡ length workers.items }
     requires waiting { (room.waiting.items ≡ []) × (length workers.items ≤ vec_capacity room.waiting) }
     requires back { (room.back.items ≡ []) × (length workers.items ≤ vec_capacity room.back) }
     requires left { room.left ≡ [] }
-    ensures run { EndsRun false result.1 (world (keeping run.old) (map supply_of workers.items) (K.state out.old) (T.state trace.old))
+    ensures run { Stands [] (keeping run.old) → EndsRun false result.1 (world (keeping run.old) (map supply_of workers.items) (K.state out.old) (T.state trace.old))
+        (world (keeping run.new) (map supply_of result.0.items) (K.state out.new) (T.state trace.new)) }
+    ensures behind { (before : List Entry) → IsBehind before before (keeping run.old)
+        → EndsBehind false before result.1 (world (keeping run.old) (map supply_of workers.items) (K.state out.old) (T.state trace.old))
         (world (keeping run.new) (map supply_of result.0.items) (K.state out.new) (T.state trace.new)) }
     ensures places { AreInPlace workers.items result.0.items }
     ensures plan { (keeping run.new).state.plan ≡ (keeping run.old).state.plan }
@@ -269,6 +280,43 @@ fn run_room<
     taker.end(rt, intake, seats, &mut left);
     let stopped = settle(rt, run, workers.as_slice(), halted, out, gate);
     (workers, stopped)
+}
+
+// Runs all rows of sources, and then the deadlines at the last stamp, for a run that has begun or goes on.
+fn run_all<
+    P: IntakeSeat + Send,
+    Q: IntakeTaker,
+    I: SharedIntake<P, Q> + Sync,
+    R: Threads + Wait + Sync,
+    S: Source + Send,
+    K: Sink,
+    T: Sink,
+    G: Gate + Sync,
+>(
+    rt: &R,
+    alloc: Global,
+    run: &mut Run,
+    workers: Vec<SourceWorker<S>>,
+    start: Option<u64>,
+    out: &mut K,
+    trace: &mut T,
+    gate: &G,
+) -> (Vec<SourceWorker<S>>, Result<(), Stop>)
+    requires none { HasTakenNone (keeping run.old) }
+    requires ready { AreReady (keeping run.old).state.plan workers.items }
+    requires start { opening_time start ≡ (keeping run.old).state.merged }
+    ensures run { Stands [] (keeping run.old) → EndsRun false result.1 (world (keeping run.old) (map supply_of workers.items) (K.state out.old) (T.state trace.old))
+        (world (keeping run.new) (map supply_of result.0.items) (K.state out.new) (T.state trace.new)) }
+    ensures behind { (before : List Entry) → IsBehind before before (keeping run.old)
+        → EndsBehind false before result.1 (world (keeping run.old) (map supply_of workers.items) (K.state out.old) (T.state trace.old))
+        (world (keeping run.new) (map supply_of result.0.items) (K.state out.new) (T.state trace.new)) }
+    ensures places { AreInPlace workers.items result.0.items }
+    ensures plan { (keeping run.new).state.plan ≡ (keeping run.old).state.plan }
+{
+    match Room::<S, P, Q, I>::create(alloc, run.plan(), workers.len() as u32, start) {
+        Ok(room) => run_room(rt, alloc, room, run, workers, out, trace, gate),
+        Err(_) => (workers, Err(Stop::Memory)),
+    }
 }
 
 /// Runs all rows of sources, and then the deadlines at the last stamp, unless a row has a fault or the run was cut short. The calling thread
@@ -304,8 +352,40 @@ pub fn run_in_threads<
     ensures places { AreInPlace workers.items result.0.items }
     ensures plan { (keeping run.new).state.plan ≡ (keeping run.old).state.plan }
 {
-    match Room::<S, P, Q, I>::create(alloc, run.plan(), workers.len() as u32, start) {
-        Ok(room) => run_room(rt, alloc, room, run, workers, out, trace, gate),
-        Err(_) => (workers, Err(Stop::Memory)),
-    }
+    run_all::<P, Q, I, R, S, K, T, G>(rt, alloc, run, workers, start, out, trace, gate)
+}
+
+/// Runs all rows of sources as `run_in_threads` does, and then the deadlines at the last stamp, in a run that goes on: whatever journal others
+/// had taken, the rows come behind it, and the deadlines at its last stamp are still to be run, also where no row comes. `start` is the time
+/// that was merged: the stamp of the last accepted row, or else the start; a row before it is late. The workers come back as their turns left
+/// them.
+pub fn resume_in_threads<
+    P: IntakeSeat + Send,
+    Q: IntakeTaker,
+    I: SharedIntake<P, Q> + Sync,
+    R: Threads + Wait + Sync,
+    S: Source + Send,
+    K: Sink,
+    T: Sink,
+    G: Gate + Sync,
+>(
+    rt: &R,
+    alloc: Global,
+    run: &mut Run,
+    workers: Vec<SourceWorker<S>>,
+    start: Option<u64>,
+    out: &mut K,
+    trace: &mut T,
+    gate: &G,
+) -> (Vec<SourceWorker<S>>, Result<(), Stop>)
+    requires none { HasTakenNone (keeping run.old) }
+    requires ready { AreReady (keeping run.old).state.plan workers.items }
+    requires start { opening_time start ≡ (keeping run.old).state.merged }
+    ensures run { (before : List Entry) → IsBehind before before (keeping run.old)
+        → EndsBehind false before result.1 (world (keeping run.old) (map supply_of workers.items) (K.state out.old) (T.state trace.old))
+        (world (keeping run.new) (map supply_of result.0.items) (K.state out.new) (T.state trace.new)) }
+    ensures places { AreInPlace workers.items result.0.items }
+    ensures plan { (keeping run.new).state.plan ≡ (keeping run.old).state.plan }
+{
+    run_all::<P, Q, I, R, S, K, T, G>(rt, alloc, run, workers, start, out, trace, gate)
 }

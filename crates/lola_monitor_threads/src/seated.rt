@@ -2,10 +2,10 @@
 ghost use Rattle.std.specs.Prelude.{◌≡◌};
 ghost use Rattle.lola_monitor_threads.specs.Seated.{IsSeated, WentOn, seated};
 
+use crate::board::{Board, Watch};
 use lola_feed::intake::{IntakeSeat, SourceIntake};
 use lola_feed::worker::{SourceWorker, TurnEnd};
 use lola_feed::{HeldSeat, SeatDesk};
-use lola_monitor_board::{Board, Watch};
 use lola_port::{Gate, Source};
 use std::marker::Model;
 use std::sync::Wait;

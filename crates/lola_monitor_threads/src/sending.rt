@@ -7,15 +7,15 @@ ghost use Rattle.lola_monitor_run.specs.Running.{keeping};
 ghost use Rattle.lola_monitor_threads.specs.Joining.{HaveFlags};
 ghost use Rattle.lola_monitor_threads.specs.Seated.{AreAt, Seated, WentOn};
 ghost use Rattle.lola_monitor_threads.specs.Sending.{HasSent, MaySend};
-ghost use Rattle.lola_monitor_threads.specs.Takings.{Halts, HasRun, IsReady, IsSameTaker, Place, place};
+ghost use Rattle.lola_monitor_threads.specs.Takings.{Halts, HasRun, HasRunTaken, IsReady, IsSameTaker, Place, place};
 
+use crate::board::Board;
 use crate::desk::DeskWorker;
 use crate::halt::Halt;
 use crate::here::is_here;
 use crate::seated::SeatedWorker;
 use crate::taking::Taker;
 use lola_feed::intake::{IntakeSeat, IntakeTaker, SharedIntake, SourceIntake};
-use lola_monitor_board::Board;
 use lola_monitor_run::run::Run;
 use lola_port::{Gate, Sink, Source};
 use std::snapshot::Snapshot;
@@ -167,7 +167,7 @@ fn send_each<
     requires flags { HaveFlags (length context.now.flags.now) waiting.items }
     requires room_here { length waiting.items + length here.items ≤ vec_capacity here }
     requires room_back { length waiting.items + length back.items ≤ vec_capacity back }
-    requires run { (first : Place) × HasRun first taker.old.seat.taken (place (keeping run.old) (K.state out.old) (T.state trace.old)) }
+    requires run { HasRunTaken taker.old (place (keeping run.old) (K.state out.old) (T.state trace.old)) }
     ensures halts { (first : Place) → HasRun first taker.old.seat.taken (place (keeping run.old) (K.state out.old) (T.state trace.old)) → AreOfSources taker.old.inputs.count taker.old.seat.taken
         → Halts result.2 taker.old.inputs.count first taker.new.seat.taken (place (keeping run.new) (K.state out.new) (T.state trace.new)) }
     ensures done { OnOk result.2 (taker.new.seat.done ≡ true) }

@@ -8,8 +8,9 @@ ghost use Rattle.lola_feed.specs.SharedIntakes.{AreSeatsOf, IsWhole};
 ghost use Rattle.lola_monitor_run.specs.Verdicts.{AreOfSources};
 ghost use Rattle.lola_monitor_run.specs.Running.{IsSetAs, keeping};
 ghost use Rattle.lola_monitor_threads.specs.Seated.{WentOn};
-ghost use Rattle.lola_monitor_threads.specs.Takings.{GoesOn, Halts, HasRun, IsReady, IsSameTaker, IsPartlyRun, Place, place, was_taken};
+ghost use Rattle.lola_monitor_threads.specs.Takings.{GoesOn, Halts, HasRun, HasRunTaken, IsReady, IsSameTaker, IsPartlyRun, Place, place, was_taken};
 
+use crate::board::Board;
 use crate::desk::DeskWorker;
 use crate::fit::RunInputs;
 use crate::halt::Halt;
@@ -18,7 +19,6 @@ use lola_feed::intake::{IntakeSeat, IntakeTaker, SharedIntake, SourceIntake};
 use lola_merge::batch::Batch;
 use lola_merge::state::Take;
 use lola_model::journal::Entry;
-use lola_monitor_board::Board;
 use lola_monitor_run::run::Run;
 use lola_monitor_run::stop::Stop;
 use lola_port::{Gate, Sink, Source};
@@ -159,7 +159,7 @@ impl<Q: IntakeTaker> Taker<Q> {
         gate: &G,
     ) -> Result<bool, Halt>
         requires ready { IsReady self.old (I.id intake.now) (keeping run.old) }
-        requires run { (first : Place) × HasRun first self.old.seat.taken (place (keeping run.old) (K.state out.old) (T.state trace.old)) }
+        requires run { HasRunTaken self.old (place (keeping run.old) (K.state out.old) (T.state trace.old)) }
         ensures halts { (first : Place) → HasRun first self.old.seat.taken (place (keeping run.old) (K.state out.old) (T.state trace.old)) → AreOfSources self.old.inputs.count self.old.seat.taken
             → Halts (was_taken result) self.old.inputs.count first self.new.seat.taken (place (keeping run.new) (K.state out.new) (T.state trace.new)) }
         ensures goes { OnOk result ((first : Place) → HasRun first self.old.seat.taken (place (keeping run.old) (K.state out.old) (T.state trace.old)) → HasRun first self.new.seat.taken (place (keeping run.new) (K.state out.new) (T.state trace.new))) }
@@ -201,7 +201,7 @@ impl<Q: IntakeTaker> Taker<Q> {
         gate: &G,
     ) -> (Vec<DeskWorker<'a, S, P, I, R>>, Result<(), Halt>)
         requires ready { IsReady self.old (I.id intake.now) (keeping run.old) }
-        requires run { (first : Place) × HasRun first self.old.seat.taken (place (keeping run.old) (K.state out.old) (T.state trace.old)) }
+        requires run { HasRunTaken self.old (place (keeping run.old) (K.state out.old) (T.state trace.old)) }
         ensures halts { (first : Place) → HasRun first self.old.seat.taken (place (keeping run.old) (K.state out.old) (T.state trace.old)) → AreOfSources self.old.inputs.count self.old.seat.taken
             → Halts result.1 self.old.inputs.count first self.new.seat.taken (place (keeping run.new) (K.state out.new) (T.state trace.new)) }
         ensures done { OnOk result.1 (self.new.seat.done ≡ true) }

@@ -1,15 +1,16 @@
-use Rattle.std.proofs.Common.{ℕ, length, map, sym, ap, ◌∙◌, subst, arith, rules}
+use Rattle.std.proofs.Common.{ℕ, false, List, [], length, map, sym, ap, ◌∙◌, subst, arith, rules}
 use Rattle.std.proofs.lemmas.List.{length-map}
-use Rattle.lola_monitor_run.specs.Running.{keeping}
-use Rattle.lola_monitor_run.specs.Feeds.{supply_of, world}
+use Rattle.lola_model.specs.declared.journal.Entry.{Entry}
+use Rattle.lola_monitor_run.specs.Running.{Stands, keeping}
+use Rattle.lola_monitor_run.specs.Behind.{EndsBehind, Following, IsBehind}
+use Rattle.lola_monitor_run.specs.Feeds.{EndsRun, supply_of, world}
 use Rattle.lola_monitor_threads.specs.Joining.{HaveFlags}
 use Rattle.lola_monitor_threads.specs.Takings.{Taking}
 use Rattle.lola_monitor_threads.proofs.Places.{zip_long}
 use Rattle.lola_monitor_threads.specs.Seated.{WentOn}
 use Rattle.lola_monitor_threads.proofs.Seating.{as_many, at_intake, have_flags, in_pairs}
 use Rattle.lola_monitor_threads.proofs.Threading.{backs_many, ends_with, goes_on, has_joined, has_run_none, is_fit, places_kept, seats_back}
-use Rattle.lola_monitor_run.proofs.Beginning.{never_begun}
-use Rattle.lola_monitor_threads.proofs.Settling.{no_turns}
+use Rattle.lola_monitor_threads.proofs.Settling.{never_went, never_went_first}
 use Rattle.lola_monitor_threads.proofs.run.run_room.Goals as goal
 
 pub seat_all-requires-clause-pairs : goal.seat_all-requires-clause-pairs
@@ -18,10 +19,9 @@ seat_all-requires-clause-pairs g c = in_pairs (keeping c.args.run.now).state.pla
 pub send_all-back-requires-after_bounds : goal.send_all-back-requires-after_bounds
 send_all-back-requires-after_bounds g c κs within = record {
   ready = record {
-    own = ap (λ (t : Taking). t.seat.intake) c.requires.taker;
-    kinds = ap (λ (t : Taking). t.inputs.kinds) c.requires.taker;
-    start = ap (λ (t : Taking). t.seat.start) c.requires.taker;
-    empty = ap (λ (t : Taking). t.batch) c.requires.taker;
+    own = ap (λ (t : Taking). t.seat.intake) c.requires.taker.made;
+    kinds = ap (λ (t : Taking). t.inputs.kinds) c.requires.taker.made;
+    empty = ap (λ (t : Taking). t.batch) c.requires.taker.made;
   };
   waiting_at = at_intake (keeping c.args.run.now).state.plan (keeping c.args.run.now).state.given_start (g.I.SourceIntake.id c.args.room.intake) c.args.workers.items (map g.P.IntakeSeat.shows c.args.room.seats.items) c.requires.ready c.requires.seats
       c.seat_all.new.waiting.items c.seat_all.ensures.seated;
@@ -33,7 +33,7 @@ send_all-back-requires-after_bounds g c κs within = record {
       omega (arith, c.in-Ok.ensures.capacity, c.len.ensures, c.args.workers.ok.0, many);
   fit_back = let many = as_many (keeping c.args.run.now).state.plan (keeping c.args.run.now).state.given_start (g.I.SourceIntake.id c.args.room.intake) c.args.workers.items (map g.P.IntakeSeat.shows c.args.room.seats.items) c.requires.ready c.requires.seats c.seat_all.new.waiting.items c.seat_all.ensures.seated in
       omega (arith, c.requires.back.1, many);
-  run = has_run_none (keeping c.args.run.now) (g.I.SourceIntake.id c.args.room.intake) (length c.args.workers.items) c.args.room.taker (g.K.Sink.state c.args.out.now) (g.T.Sink.state c.args.trace.now) c.requires.taker c.requires.stands;
+  run = has_run_none (keeping c.args.run.now) (g.I.SourceIntake.id c.args.room.intake) (length c.args.workers.items) c.args.room.taker (g.K.Sink.state c.args.out.now) (g.T.Sink.state c.args.trace.now) c.requires.taker c.requires.none;
 }
 
 pub take_apart-requires-clause-room : goal.take_apart-requires-clause-room
@@ -53,7 +53,7 @@ end-requires-clause-all g c =
     sym (length-map c.take_apart.new.seats.items g.P.IntakeSeat.shows)
     ∙ backs_many (keeping c.args.run.now) (g.I.SourceIntake.id c.args.room.intake) c.args.workers.items (map g.P.IntakeSeat.shows c.args.room.seats.items) c.requires.ready c.requires.seats c.seat_all.new.waiting.items c.send_all-back.result.0.items
     c.take_apart.new.workers.items (map g.P.IntakeSeat.shows c.take_apart.new.seats.items) c.seat_all.ensures.seated c.send_all-back.ensures.back c.take_apart.ensures.seated (c.take_apart.ensures.many.0, length-map c.take_apart.new.seats.items g.P.IntakeSeat.shows ∙ c.take_apart.ensures.many.1)
-    ∙ sym (c.send_all-back.ensures.seat.sources ∙ ap (λ (t : Taking). t.seat.sources) c.requires.taker)
+    ∙ sym (c.send_all-back.ensures.seat.sources ∙ ap (λ (t : Taking). t.seat.sources) c.requires.taker.made)
 
 pub settle-stopped-requires-clause-going : goal.settle-stopped-requires-clause-going
 settle-stopped-requires-clause-going g c κs within =
@@ -61,7 +61,7 @@ settle-stopped-requires-clause-going g c κs within =
     c.take_apart.new.workers.items (map g.P.IntakeSeat.shows c.take_apart.new.seats.items) c.seat_all.ensures.seated c.send_all-back.ensures.back c.take_apart.ensures.seated (c.take_apart.ensures.many.0, length-map c.take_apart.new.seats.items g.P.IntakeSeat.shows ∙ c.take_apart.ensures.many.1)
     c.args.room.taker c.requires.taker c.send_all-back.new.taker.seat c.send_all-back.ensures.seat c.end.new.left c.end.ensures
     (keeping c.send_all-back.new.run) (g.K.Sink.state c.args.out.now) (g.K.Sink.state c.send_all-back.new.out) (g.T.Sink.state c.args.trace.now) (g.T.Sink.state c.send_all-back.new.trace)
-    c.send_all-back.result.1 c.send_all-back.ensures.halts c.send_all-back.ensures.done c.requires.stands
+    c.send_all-back.result.1 c.send_all-back.ensures.halts c.send_all-back.ensures.done c.requires.none
 
 pub settle-stopped-requires-clause-fit : goal.settle-stopped-requires-clause-fit
 settle-stopped-requires-clause-fit g c κs within =
@@ -69,14 +69,18 @@ settle-stopped-requires-clause-fit g c κs within =
     c.take_apart.new.workers.items (map g.P.IntakeSeat.shows c.take_apart.new.seats.items) c.seat_all.ensures.seated c.send_all-back.ensures.back c.take_apart.ensures.seated (c.take_apart.ensures.many.0, length-map c.take_apart.new.seats.items g.P.IntakeSeat.shows ∙ c.take_apart.ensures.many.1)
     c.args.room.taker c.requires.taker c.send_all-back.new.taker.seat c.send_all-back.ensures.seat c.end.new.left c.end.ensures
     (keeping c.send_all-back.new.run) (g.K.Sink.state c.args.out.now) (g.K.Sink.state c.send_all-back.new.out) (g.T.Sink.state c.args.trace.now) (g.T.Sink.state c.send_all-back.new.trace)
-    c.send_all-back.result.1 c.send_all-back.ensures.halts c.send_all-back.ensures.done c.requires.stands
+    c.send_all-back.result.1 c.send_all-back.ensures.halts c.send_all-back.ensures.done c.requires.none
 
 pub returns-in_default-clause-run : goal.returns-in_default-clause-run
-returns-in_default-clause-run g c = no_turns _ _ (never_begun (keeping c.args.run.now) c.args.workers.items (g.K.Sink.state c.args.out.now) (g.T.Sink.state c.args.trace.now) c.requires.stands c.requires.ready)
+returns-in_default-clause-run g c = never_went_first (keeping c.args.run.now) c.args.workers.items (g.K.Sink.state c.args.out.now) (g.T.Sink.state c.args.trace.now) c.requires.none c.requires.ready
+
+pub returns-in_default-clause-behind : goal.returns-in_default-clause-behind
+returns-in_default-clause-behind g c = λ before stood.
+    never_went (keeping c.args.run.now) c.args.workers.items (g.K.Sink.state c.args.out.now) (g.T.Sink.state c.args.trace.now) c.requires.none c.requires.ready (Following before) stood
 
 pub returns-clause-run : goal.returns-clause-run
 returns-clause-run g c =
-    ends_with c.send_all-back.result.1 c.settle-stopped.result
+    ends_with c.send_all-back.result.1 (λ first last. Stands [] first.kept → EndsRun false c.settle-stopped.result first last)
     (world (keeping c.args.run.now) (map supply_of c.args.workers.items) (g.K.Sink.state c.args.out.now) (g.T.Sink.state c.args.trace.now))
     (keeping c.send_all-back.new.run) (keeping c.settle-stopped.new.run) (g.K.Sink.state c.send_all-back.new.out) (g.K.Sink.state c.settle-stopped.new.out) (g.T.Sink.state c.send_all-back.new.trace)
     c.take_apart.new.workers.items c.as_slice.result.now c.as_slice.ensures.value c.settle-stopped.ensures.run
@@ -84,7 +88,19 @@ returns-clause-run g c =
     c.take_apart.new.workers.items (map g.P.IntakeSeat.shows c.take_apart.new.seats.items) c.seat_all.ensures.seated c.send_all-back.ensures.back c.take_apart.ensures.seated (c.take_apart.ensures.many.0, length-map c.take_apart.new.seats.items g.P.IntakeSeat.shows ∙ c.take_apart.ensures.many.1)
     c.args.room.taker c.requires.taker c.send_all-back.new.taker.seat c.send_all-back.ensures.seat c.end.new.left c.end.ensures
     (keeping c.send_all-back.new.run) (g.K.Sink.state c.args.out.now) (g.K.Sink.state c.send_all-back.new.out) (g.T.Sink.state c.args.trace.now) (g.T.Sink.state c.send_all-back.new.trace)
-    c.send_all-back.result.1 c.send_all-back.ensures.halts c.send_all-back.ensures.done c.requires.stands)
+    c.send_all-back.result.1 c.send_all-back.ensures.halts c.send_all-back.ensures.done c.requires.none)
+
+pub returns-clause-behind : goal.returns-clause-behind
+returns-clause-behind g c =
+    ends_with c.send_all-back.result.1 (λ first last. (before : List Entry) → IsBehind before before first.kept → EndsBehind false before c.settle-stopped.result first last)
+    (world (keeping c.args.run.now) (map supply_of c.args.workers.items) (g.K.Sink.state c.args.out.now) (g.T.Sink.state c.args.trace.now))
+    (keeping c.send_all-back.new.run) (keeping c.settle-stopped.new.run) (g.K.Sink.state c.send_all-back.new.out) (g.K.Sink.state c.settle-stopped.new.out) (g.T.Sink.state c.send_all-back.new.trace)
+    c.take_apart.new.workers.items c.as_slice.result.now c.as_slice.ensures.value c.settle-stopped.ensures.behind
+    (has_joined (keeping c.args.run.now) (g.I.SourceIntake.id c.args.room.intake) c.args.workers.items (map g.P.IntakeSeat.shows c.args.room.seats.items) c.requires.ready c.requires.seats c.seat_all.new.waiting.items c.send_all-back.result.0.items
+    c.take_apart.new.workers.items (map g.P.IntakeSeat.shows c.take_apart.new.seats.items) c.seat_all.ensures.seated c.send_all-back.ensures.back c.take_apart.ensures.seated (c.take_apart.ensures.many.0, length-map c.take_apart.new.seats.items g.P.IntakeSeat.shows ∙ c.take_apart.ensures.many.1)
+    c.args.room.taker c.requires.taker c.send_all-back.new.taker.seat c.send_all-back.ensures.seat c.end.new.left c.end.ensures
+    (keeping c.send_all-back.new.run) (g.K.Sink.state c.args.out.now) (g.K.Sink.state c.send_all-back.new.out) (g.T.Sink.state c.args.trace.now) (g.T.Sink.state c.send_all-back.new.trace)
+    c.send_all-back.result.1 c.send_all-back.ensures.halts c.send_all-back.ensures.done c.requires.none)
 
 pub returns-clause-places : goal.returns-clause-places
 returns-clause-places g c = places_kept (keeping c.args.run.now) (g.I.SourceIntake.id c.args.room.intake) c.args.workers.items (map g.P.IntakeSeat.shows c.args.room.seats.items) c.requires.ready c.requires.seats c.seat_all.new.waiting.items c.send_all-back.result.0.items

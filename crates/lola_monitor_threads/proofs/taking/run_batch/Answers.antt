@@ -35,7 +35,7 @@ loop-entry-preserved g c =
     let new = place (keeping c.test_entry.new.run) (g.K.Sink.state c.test_entry.new.out) (g.T.Sink.state c.test_entry.new.trace) in
     record {
       kinds = inv.kinds ∙ ap (λ (s : Setting). input_kinds s.plan.spec.streams) (sym c.test_entry.ensures.setting);
-      way = way_on mid new c.in-Some.entry c.pop_front.new.self (subst (IsPartlyRun mid) c.in-Some.ensures.first inv.way) c.in_default-test_entry.ensures.goes c.test_entry.ensures.setting;
+      way = way_on mid new c.in-Some.entry c.pop_front.new.self (subst (IsPartlyRun mid) c.in-Some.ensures.first inv.way) c.in_default-test_entry.ensures.goes;
       ran = ran_more c.args.inputs.now.count old mid new c.args.batch.now c.in-Some.entry c.pop_front.new.self (subst (RanSome c.args.inputs.now.count old mid c.args.batch.now) c.in-Some.ensures.first inv.ran)
           c.in_default-test_entry.ensures.source c.in_default-test_entry.ensures.goes;
       setting = c.test_entry.ensures.setting ∙ inv.setting;

@@ -4,7 +4,7 @@ use Rattle.lola_feed.specs.SharedIntakes.{TakerShown}
 use Rattle.lola_monitor_run.specs.Running.{keeping}
 use Rattle.lola_monitor_threads.specs.Takings.{Halts, InputsOf, IsSameTaker, Taking, place}
 use Rattle.lola_monitor_threads.proofs.Passing.{all_go_on_twice, all_stay}
-use Rattle.lola_monitor_threads.proofs.Took.{closing_same, halts_on, same_taker_twice, still_taker}
+use Rattle.lola_monitor_threads.proofs.Took.{closing_same, halts_on, same_taker_twice, still_taker, taken_on}
 use Rattle.lola_monitor_threads.proofs.taking.Taker.take_all.Goals as goal
 
 pub loop-init : goal.loop-init
@@ -47,7 +47,7 @@ loop-preserved g c =
       seat = same_taker_twice c.args.self.now.seat c.loop.self.seat c.take_once.new.self.seat inv.seat c.take_once.ensures.seat;
       inputs = c.take_once.ensures.inputs ∙ inv.inputs;
       setting = c.take_once.ensures.setting ∙ inv.setting;
-      run = (inv.run.0, c.in-Ok-false.ensures.goes inv.run.0 inv.run.1);
+      run = taken_on c.loop.self c.take_once.new.self now next c.take_once.ensures.seat inv.run c.in-Ok-false.ensures.goes;
       halts = λ first run sources. halts_on (Ok tt) c.args.self.now.inputs.count c.loop.self.inputs.count first c.loop.self.seat.taken c.take_once.new.self.seat.taken now next
           (ap (λ (i : InputsOf). i.count) inv.inputs) (c.in-Ok-false.ensures.halts first) (inv.halts first run sources);
     }

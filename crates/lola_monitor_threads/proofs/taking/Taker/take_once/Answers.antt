@@ -9,8 +9,8 @@ run_batch-requires-clause-under_way g c κs within =
     let p = c.self.inside in
     let take = c.take-take in
     let shows = g.Q.IntakeTaker.shows in
-    rows_next c.args.self.now (shows p.seat) (shows take.new.taker) p.inputs p.batch c.self.view_is take.result take.new.into take.ensures.takes (g.I.SourceIntake.id c.args.intake.now)
-    (place (keeping c.args.run.now) (g.K.Sink.state c.args.out.now) (g.T.Sink.state c.args.trace.now)) c.requires.ready c.requires.run.0 c.requires.run.1
+    rows_next c.args.self.now (shows p.seat) (shows take.new.taker) p.inputs p.batch c.self.view_is take.result take.new.into take.ensures.takes
+    (place (keeping c.args.run.now) (g.K.Sink.state c.args.out.now) (g.T.Sink.state c.args.trace.now)) c.requires.run
 
 pub returns-in-Err-clause-halts : goal.returns-in-Err-clause-halts
 returns-in-Err-clause-halts g c =
