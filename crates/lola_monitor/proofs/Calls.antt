@@ -1,20 +1,18 @@
 -- What a shelf was asked for in a call.
-use Rattle.std.proofs.Common.{◌≡◌, ◌⊎◌, ℕ, Bool, subst, List, [], ◌∷◌, ◌++◌, map, length, take, drop, inl, inr, Err, refl, sym, ap, ◌∙◌, append_assoc}
+use Rattle.std.proofs.Common.{◌≡◌, ◌⊎◌, ℕ, subst, List, [], ◌∷◌, ◌++◌, map, length, take, drop, inl, inr, Err, refl, sym, ap, ◌∙◌, append_assoc}
 use Rattle.std.proofs.lemmas.List.{append-nil}
 use Rattle.std.proofs.Math.Seq.{take-append_seam, drop-append_seam}
 use Rattle.lola_port.specs.Asks.{given_ask}
 use Rattle.lola_port.specs.States.{ShelfState}
 use Rattle.lola_port.specs.declared.traits.Ask.{Ask}
-use Rattle.lola_report_lines.specs.declared.end.EndLine.TheVariants.{Done, Usage, Refused, Malformed, Fault, UnreadableSpecification, UnreadableSource, Analysed}
-use Rattle.lola_monitor_run.specs.Verdicts.{Setting}
 use Rattle.lola_model.specs.declared.plan.Plan.{Plan}
 use Rattle.lola_replay.specs.declared.end.ReplayEnd.TheVariants.{Found, UnreadableTrace, UnreadableVerdicts}
 use Rattle.lola_monitor.specs.Command.{ReplayNames, names_asked}
-use Rattle.lola_monitor.specs.Monitor.{Asked, Outside, asks_between}
-use Rattle.lola_monitor.specs.Outcomes.{AllHome, Grew, Marred, PlansName, RunsSources, Stopped, noted}
+use Rattle.lola_monitor.specs.Monitor.{Asked, asks_between}
+use Rattle.lola_monitor.specs.Outcomes.{Grew, Marred, PlansName, Stopped, noted}
 use Rattle.lola_monitor.specs.ReplayOutcomes.{ReplaysTexts}
 use Rattle.lola_monitor.specs.declared.outcome.CallEnd.{CallEnd}
-use Rattle.lola_monitor.specs.declared.outcome.CallEnd.TheVariants.{Line, Drilled, Report, Replayed, CutFault, Put, Memory}
+use Rattle.lola_monitor.specs.declared.outcome.CallEnd.TheVariants.{Line, Drilled, Report, Replayed, Stated, CutFault, Put, Memory}
 use Rattle.lola_monitor.specs.declared.outcome.Unplanned.{Unplanned}
 use Rattle.lola_monitor.specs.declared.outcome.Unplanned.TheVariants as unplanned
 
@@ -56,25 +54,6 @@ names_given (name ∷ names) = ap (λ (l : List (List ℕ)). name ∷ l) (names_
 abbrev pub grew_all : (names : List (List ℕ)) (before after : ShelfState) (asks : List Ask) → after.asks ≡ before.asks ++ asks → map (λ ask. ask.name) asks ≡ names → after.out ≡ before.out → Grew names before after
 grew_all names before after asks is named home = record { asks = asks; appended = is; front = ([], sym (append-nil (map (λ ask. ask.name) asks) ∙ named)); home = home }
 
-grew_home : (names : List (List ℕ)) (before after : ShelfState) → AllHome names before after → Grew names before after
-grew_home names before after home = grew_all names before after (map given_ask names) home.asks (names_given names) home.out
-
-pub grew_sources : (in_turns : Bool) (outcome : CallEnd) (s : Setting) (names : List (List ℕ)) (before after : Outside) → RunsSources in_turns outcome s names before after → Grew names before.shelf after.shelf
-grew_sources in_turns (Line (Done a l n v)) s names before after ran = grew_home names before.shelf after.shelf ran.ended.all
-grew_sources in_turns (Line (Malformed n row kind)) s names before after ran = grew_home names before.shelf after.shelf ran.ended.all
-grew_sources in_turns (Line (Fault stream kind time)) s names before after ran = grew_all names before.shelf after.shelf ran.asks ran.home.appended ran.home.named ran.home.out
-grew_sources in_turns (Line (UnreadableSource n)) s names before after ran = ran.asked
-grew_sources in_turns (Line Usage) s names before after ran = absurd ran
-grew_sources in_turns (Line (Refused r)) s names before after ran = absurd ran
-grew_sources in_turns (Line UnreadableSpecification) s names before after ran = absurd ran
-grew_sources in_turns (Line (Analysed n w)) s names before after ran = absurd ran
-grew_sources in_turns (Drilled line) s names before after ran = absurd ran
-grew_sources in_turns (Report text) s names before after ran = absurd ran
-grew_sources in_turns (Replayed end) s names before after ran = absurd ran
-grew_sources in_turns CutFault s names before after ran = grew_all names before.shelf after.shelf ran.asks ran.home.appended ran.home.named ran.home.out
-grew_sources in_turns Put s names before after ran = grew_all names before.shelf after.shelf ran.asks ran.home.appended ran.home.named ran.home.out
-grew_sources in_turns Memory s names before after ran = ran.shelf
-
 pub grew_twice : (name : List ℕ) (names : List (List ℕ)) (before mid after : ShelfState) → mid ≡ noted before name → Grew names mid after → Grew (name ∷ names) before after
 grew_twice name names before mid after is grew = record {
   asks = given_ask name ∷ grew.asks;
@@ -93,6 +72,7 @@ grew_texts (Replayed (Found finding)) plan names before after ran =
 grew_texts (Replayed UnreadableTrace) plan names before after ran = grew_marred names.trace (names.verdicts ∷ []) before after ran
 grew_texts (Replayed UnreadableVerdicts) plan names before after ran =
     grew_twice names.trace (names.verdicts ∷ []) before (noted before names.trace) after refl (grew_marred names.verdicts [] (noted before names.trace) after ran)
+grew_texts (Stated end) plan names before after ran = absurd ran
 grew_texts CutFault plan names before after ran = absurd ran
 grew_texts Put plan names before after ran = absurd ran
 grew_texts Memory plan names before after ran = ran

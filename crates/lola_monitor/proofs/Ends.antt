@@ -10,7 +10,7 @@ use Rattle.lola_monitor.specs.Monitor.{Call, IsAnalysed, IsCutAnalysis, IsCutDon
 use Rattle.lola_monitor.specs.Conclusions.{Concluded}
 use Rattle.lola_monitor.specs.Outcomes.{AreUntouched, NoCommand, NoPlan, NotRead, StoodAnalysed, StoodCut, StoodDone, StoodFault, StoodMalformed, Works}
 use Rattle.lola_monitor.specs.declared.outcome.CallEnd.{CallEnd}
-use Rattle.lola_monitor.specs.declared.outcome.CallEnd.TheVariants.{Line, Drilled, Report, Replayed, CutFault, Put, Memory}
+use Rattle.lola_monitor.specs.declared.outcome.CallEnd.TheVariants.{Line, Drilled, Report, Replayed, Stated, CutFault, Put, Memory}
 use Rattle.lola_replay.specs.declared.end.ReplayEnd.TheVariants.{Found, UnreadableTrace, UnreadableVerdicts}
 use Rattle.lola_monitor.proofs.DrillEnds.{drill_means}
 use Rattle.lola_monitor.proofs.ReplayMeans.{found_means, unread_means}
@@ -18,11 +18,11 @@ use Rattle.lola_monitor.proofs.Laws.{PutsAddUp}
 use Rattle.lola_monitor.proofs.Means.{Means, means_at}
 
 -- from the same state
-wrote_same : (s0 s1 s2 : SinkState) (ys : List ℕ) → s1 ≡ s0 → Wrote s1 s2 ys → Wrote s0 s2 ys
+pub wrote_same : (s0 s1 s2 : SinkState) (ys : List ℕ) → s1 ≡ s0 → Wrote s1 s2 ys → Wrote s0 s2 ys
 wrote_same s0 s1 s2 ys same wrote = subst (λ s. Wrote s s2 ys) same wrote
 
 -- a put that failed behind a text: a proper part of both
-broke_behind : PutsAddUp → (s0 s1 s2 : SinkState) (text more : List ℕ) → s1 ≡ grown s0 text → PutBroke s1 s2 more → PutBroke s0 s2 (text ++ more)
+pub broke_behind : PutsAddUp → (s0 s1 s2 : SinkState) (text more : List ℕ) → s1 ≡ grown s0 text → PutBroke s1 s2 more → PutBroke s0 s2 (text ++ more)
 broke_behind parts s0 s1 s2 text more first broke = record {
   part = text ++ broke.part;
   is_part = record {
@@ -36,7 +36,7 @@ broke_behind parts s0 s1 s2 text more first broke = record {
 }
 
 -- a text and a line behind it, or a proper part of both
-wrote_behind : PutsAddUp → (s0 s1 s2 : SinkState) (text more : List ℕ) → s1 ≡ grown s0 text → Wrote s1 s2 more → Wrote s0 s2 (text ++ more)
+pub wrote_behind : PutsAddUp → (s0 s1 s2 : SinkState) (text more : List ℕ) → s1 ≡ grown s0 text → Wrote s1 s2 more → Wrote s0 s2 (text ++ more)
 wrote_behind parts s0 s1 s2 text more first (inl is) = inl (is ∙ ap (λ s. grown s more) first ∙ parts s0 text more)
 wrote_behind parts s0 s1 s2 text more first (inr broke) = inr (broke_behind parts s0 s1 s2 text more first broke)
 
@@ -121,6 +121,7 @@ module _ (words : List (List ℕ)) (before after : Outside) (last : SinkState) w
   means_of parts status (Replayed (Found finding)) works ended = found_means words before after last status finding works ended
   means_of parts status (Replayed UnreadableTrace) works ended = unread_means words before after last status UnreadableTrace works ended
   means_of parts status (Replayed UnreadableVerdicts) works ended = unread_means words before after last status UnreadableVerdicts works ended
+  means_of parts status (Stated end) works ended = absurd works
   means_of parts status CutFault works e = means_at 5 status here e.0 (inl (subst (λ s. IsFault (call words before (record after { out = s }))) (sym e.1) works))
   means_of parts status Put works e = means_at 7 status here e.0 (inl (inl (subst (λ s. IsCutOff (call words before (record after { out = s }))) (sym e.1) works)))
   means_of parts status Memory works e = means_at 8 status here e.0 (subst (λ s. Means 8 (call words before (record after { out = s }))) (sym e.1) works)

@@ -19,7 +19,7 @@ use Rattle.lola_monitor.specs.Outcomes.{ends_of, first_failed, is_failed_read}
 abbrev pub counted : List ℕ → ℕ → Ask
 counted name count = record (given_ask name) { count = count }
 
-after_first : (o : Option ℕ) → option_map (λ n. n + 1) o ≡ None → o ≡ None
+pub after_first : (o : Option ℕ) → option_map (λ n. n + 1) o ≡ None → o ≡ None
 after_first None is = refl
 after_first (Some n) is = absurd (cc)
 
@@ -36,6 +36,11 @@ pub none_failed_ask : (asks : List Ask) → first_failed_ask asks ≡ None → (
 none_failed_ask [] none n ask is = absurd (cc)
 none_failed_ask (a ∷ asks) none zero ask is = let b = (none_first (is_failed_ask a) (first_failed_ask asks) none).0 in let same : a ≡ ask = cc in sym (ap is_failed_ask same) ∙ b
 none_failed_ask (a ∷ asks) none (suc n) ask is = none_failed_ask asks (none_first (is_failed_ask a) (first_failed_ask asks) none).1 n ask is
+
+-- nor behind asks that were given
+pub none_behind_given : (texts : List (List ℕ)) (asks : List Ask) → first_failed_ask (map given_ask texts ++ asks) ≡ None → first_failed_ask asks ≡ None
+none_behind_given [] asks none = none
+none_behind_given (text ∷ texts) asks none = none_behind_given texts asks (after_first (first_failed_ask (map given_ask texts ++ asks)) none)
 
 not_above : (n : ℕ) → nat_lt 0 n ≡ false → n ≡ 0
 not_above n is = grind (arith, nat_tests)
@@ -54,12 +59,6 @@ pub all_counted : (names : List (List ℕ)) (counts : List ℕ) → AreGiven (as
 all_counted [] counts = All-nil (λ (ask : Ask). ask.given ≡ true)
 all_counted (name ∷ names) [] = All-nil (λ (ask : Ask). ask.given ≡ true)
 all_counted (name ∷ names) (count ∷ counts) = All-cons (λ (ask : Ask). ask.given ≡ true) (counted name count) (asks_of names counts) refl (all_counted names counts)
-
-pub given_counted : (names : List (List ℕ)) (counts : List ℕ) (n : ℕ) (ask : Ask) → slice_get (asks_of names counts) n ≡ Some ask → ask.given ≡ true
-given_counted [] counts n ask is = absurd (cc)
-given_counted (name ∷ names) [] n ask is = absurd (cc)
-given_counted (name ∷ names) (count ∷ counts) zero ask is = let same : counted name count ≡ ask = cc in sym (ap (λ (a : Ask). a.given) same)
-given_counted (name ∷ names) (count ∷ counts) (suc n) ask is = given_counted names counts n ask is
 
 -- the ask of a source
 pub get_counted : (names : List (List ℕ)) (counts : List ℕ) (n : ℕ) (name : List ℕ) (count : ℕ) → slice_get names n ≡ Some name → slice_get counts n ≡ Some count → slice_get (asks_of names counts) n ≡ Some (counted name count)
@@ -166,6 +165,14 @@ first_not_given [] at name is = absurd (cc)
 first_not_given (x ∷ names) zero name is = refl
 first_not_given (x ∷ names) (suc at) name is = ap (option_map (λ n. n + 1)) (first_not_given names at name is) ∙ ap Some (omega arith)
 
-pub last_given : (asks : List Ask) (ask : Ask) → AreGiven (asks ++ ask ∷ []) → ask.given ≡ true
-last_given [] ask all = All-head (λ (a : Ask). a.given ≡ true) ask [] all
-last_given (a ∷ asks) ask all = last_given asks ask (All-tail (λ (a : Ask). a.given ≡ true) a (asks ++ ask ∷ []) all)
+-- that one is the last
+pub ask_not_given : (names : List (List ℕ)) (at : ℕ) (name : List ℕ) → slice_get names at ≡ Some name → slice_get (map given_ask (take at names) ++ failed_ask name ∷ []) at ≡ Some (failed_ask name)
+ask_not_given [] at name is = absurd (cc)
+ask_not_given (x ∷ names) zero name is = refl
+ask_not_given (x ∷ names) (suc at) name is = ask_not_given names at name is
+
+-- asks that were given, at a place
+pub given_at : (asks : List Ask) (n : ℕ) (ask : Ask) → slice_get asks n ≡ Some ask → AreGiven asks → ask.given ≡ true
+given_at [] n ask is all = absurd (cc)
+given_at (a ∷ asks) zero ask is all = let same : a ≡ ask = cc in sym (ap (λ (b : Ask). b.given) same) ∙ All-head (λ (b : Ask). b.given ≡ true) a asks all
+given_at (a ∷ asks) (suc n) ask is all = given_at asks n ask is (All-tail (λ (b : Ask). b.given ≡ true) a asks all)

@@ -1,14 +1,12 @@
 -- A run of sources that were fetched and came back.
-use Rattle.std.proofs.Common.{◌≡◌, ℕ, ◌<◌, ◌≤◌, ◌⊎◌, List, [], ◌∷◌, ◌++◌, Option, None, Some, Result, Ok, Err, IsSome, Bool, nat_lt, slice_get, map, take, drop, refl, sym, ap, ◌∙◌, inl, inr, subst, length, true, false, arith}
+use Rattle.std.proofs.Common.{◌≡◌, ℕ, ◌+◌, ◌-◌, ◌≤◌, ◌⊎◌, List, [], ◌∷◌, ◌++◌, Option, None, Some, Result, Ok, Err, IsSome, Bool, nat_lt, slice_get, map, take, drop, refl, sym, ap, ◌∙◌, inl, inr, subst, length, true, false, arith}
 use Rattle.std.proofs.lemmas.Bool.Decides.{nat_tests}
 use Rattle.std.proofs.lemmas.List.{length-map, take-append-drop}
-use Rattle.std.proofs.lemmas.List.Elements.{All-nil}
 use Rattle.std.proofs.lemmas.Option.{slice_get_within}
-use Rattle.lola_port.specs.States.{Rose, ShelfState, SinkState, SourceState, grown}
+use Rattle.lola_port.specs.States.{Rose, ShelfState, SinkState, SourceState}
 use Rattle.lola_port.specs.Asks.{failed_ask, given_ask}
 use Rattle.lola_port.specs.declared.traits.Ask.{Ask}
 use Rattle.lola_model.specs.Journal.{accepted, rows_of}
-use Rattle.lola_model.specs.Runs.{whole_model}
 use Rattle.lola_model.specs.Faults.{RunFault}
 use Rattle.lola_model.specs.declared.plan.Plan.{Plan}
 use Rattle.lola_model.specs.declared.journal.Entry.{Entry}
@@ -19,22 +17,27 @@ use Rattle.lola_feed.specs.Feeding.{Working, beginning, to_come}
 use Rattle.lola_feed.specs.declared.worker.SourceEnd as worker
 use Rattle.lola_feed.specs.declared.worker.SourceEnd.TheVariants as finish
 use Rattle.lola_report_lines.specs.declared.end.EndLine.TheVariants.{Done, UnreadableSource}
-use Rattle.lola_monitor_run.specs.Verdicts.{AreOfSources, IsRowFault, Setting, fault_in, late_count, most_rows, verdicts}
+use Rattle.lola_model.specs.Runs.{final_lines, settled_lines, settled_model, whole_model}
+use Rattle.lola_monitor_run.specs.Verdicts.{AreOfSources, Setting, late_count, most_rows}
 use Rattle.lola_monitor_run.specs.Running.{Keeping, setting_in}
 use Rattle.lola_monitor_run.specs.declared.stop.Stop.{Stop}
 use Rattle.lola_monitor_run.specs.declared.stop.Stop.TheVariants as stop
-use Rattle.lola_monitor_run.specs.Feeds as feeds
-use Rattle.lola_monitor_run.specs.Feeds.{AreFed, AreReady, BeganWith, CameTo, EndedByCutFault, EndedByFault, EndedWith, EndsRun, GoInRounds, HasEnded, HaveBegun, HaveEnded, IsFed, RanOutOfMemory, RanToFailedPut, Supply, Through, ThroughCut, ThroughWell, World, supply_of, world}
+use Rattle.lola_monitor_run.specs.Behind as behind
+use Rattle.lola_monitor_run.specs.Behind.{CameBehind, EndedByCutFaultBehind, EndedByFaultBehind, EndsBehind, IsRowFaultBehind, RanOutOfMemoryBehind, RanToFailedPutBehind, ThroughBehind, ThroughCutBehind, ThroughWellBehind}
+use Rattle.lola_monitor_run.specs.Feeds.{AreFed, AreReady, BeganWith, EndedWith, GoInRounds, HasEnded, HaveBegun, HaveEnded, IsFed, Supply, World, supply_of, world}
 use Rattle.lola_feed.specs.Lending as shelves
 use Rattle.lola_feed.specs.Lending.{AreRooms, Fetches, HasReturned, IsLent, IsNotGiven, IsStopped, asks_of, counts_of, places_of}
 use Rattle.lola_feed.specs.declared.sources.FetchStop.{FetchStop}
 use Rattle.lola_feed.specs.declared.sources.FetchStop.TheVariants as fetch
-use Rattle.lola_monitor.specs.Monitor.{AllBegin, AllEnd, AllRead, Begins, Ends, GoInTurns, IsAtDeadline, MalformedSource, Outside, asks_between, done_line, fault_line, first_failed_ask, first_malformed, is_failed_ask, outside, source_rows}
-use Rattle.lola_monitor.specs.Outcomes.{AllHome, ArePut, BrokenRun, CameHome, CutFaultRun, CutRun, EndedRun, FaultRun, Grew, OutcomeAfter, RunsSources, SourcesRun, StoppedRun, end_by, end_of, ends_of, first_failed, line_of, source_end, unfetched}
+use Rattle.lola_monitor.specs.Monitor.{AllBegin, AllEnd, AllRead, Begins, Ends, GoInTurns, MalformedSource, Outside, asks_between, fault_line, first_failed_ask, first_malformed, is_failed_ask, outside, source_rows}
+use Rattle.lola_monitor.specs.Pasts.{done_line_behind}
+use Rattle.lola_monitor.specs.Outcomes.{AllHome, ArePutBehind, BrokenRun, CameHome, CutFaultRun, CutRun, EndedRun, EndsSources, FaultRun, Grew, IsAtDeadlineBehind, NotBegunRun, NotGivenRun, OutcomeAfter, RunsSources, SourcesRun, TakesSources, UnfinishedRun, end_by, end_of, ends_of, first_failed, line_of, source_end, unfetched}
+use Rattle.lola_monitor.specs.declared.ending.SourcesEnd.{SourcesEnd}
+use Rattle.lola_monitor.specs.declared.ending.SourcesEnd.TheVariants as sources_end
 use Rattle.lola_monitor.specs.declared.outcome.CallEnd.{CallEnd}
-use Rattle.lola_monitor.specs.declared.outcome.CallEnd.TheVariants.{Line}
-use Rattle.lola_monitor.proofs.Calls.{between, grew_all, grew_none, names_given}
-use Rattle.lola_monitor.proofs.FailedAsks.{Fits, all_counted, counted, first_is, first_not_given, front_asked, get_counted, given_counted, last_given, names_counted, none_counted, none_failed, none_failed_ask, none_malformed, plainly_given, some_counted}
+use Rattle.lola_monitor.specs.declared.outcome.CallEnd.TheVariants.{Line, Memory}
+use Rattle.lola_monitor.proofs.Calls.{between, grew_all, names_given}
+use Rattle.lola_monitor.proofs.FailedAsks.{Fits, all_counted, ask_not_given, counted, first_is, first_not_given, front_asked, get_counted, names_counted, none_counted, none_failed, none_failed_ask, none_malformed, plainly_given, some_counted}
 use Rattle.lola_monitor.proofs.Listed.{get_beside, get_image, image_get}
 
 -- the rows of a told source are those to come
@@ -77,7 +80,11 @@ not_failed (Some finish.Memory) count none fit = absurd fit
 zero_of : (count : ℕ) → nat_lt 0 count ≡ false → count ≡ 0
 zero_of count is = grind (arith, nat_tests)
 
-module _ (in_turns : Bool) (names : List (List ℕ)) (before after : Outside) (kept0 kept1 : Keeping) (lent last : List Working) where
+-- what is left of a sum
+left_of : (one other sum : ℕ) → one + other ≡ sum → other ≡ sum - one
+left_of one other sum is = omega (arith, is)
+
+module _ (front : List Entry) (in_turns : Bool) (names : List (List ℕ)) (before after : Outside) (kept0 kept1 : Keeping) (lent last : List Working) where
   abbrev olds : List Supply
   olds = map supply_of lent
 
@@ -126,10 +133,10 @@ module _ (in_turns : Bool) (names : List (List ℕ)) (before after : Outside) (k
     ends_are : (end : SourceEnd) (n : ℕ) (name : List ℕ) (w : Working) (rows : List Row) → slice_get names n ≡ Some name → slice_get lent n ≡ Some w → EndedWith end (to_come w) rows → Ends (before.shelf.told name) s.plan n rows end
     ends_are end n name w rows named is ended bytes told = ended (source_rows s.plan n bytes) (fresh.rest n name w named is bytes told)
 
-    of_sources : (journal : List Entry) → AreOfSources (length olds) journal → AreOfSources (length names) journal
+    pub of_sources : (journal : List Entry) → AreOfSources (length olds) journal → AreOfSources (length names) journal
     of_sources journal are = subst (λ n. AreOfSources n journal) many_old are
 
-    all_begun : (journal : List Entry) → HaveBegun olds journal → AllBegin before.shelf s.plan names journal
+    pub all_begun : (journal : List Entry) → HaveBegun olds journal → AllBegin before.shelf s.plan names journal
     all_begun journal begun n name named = let w = old_of n name named in begins_are n name w.0 (rows_of n journal) named w.1 (begun n (supply_of w.0) (image_get supply_of lent n w.0 w.1))
 
     -- ---- the asks
@@ -153,10 +160,7 @@ module _ (in_turns : Bool) (names : List (List ℕ)) (before after : Outside) (k
       out = returned.out;
     }
 
-    abbrev grew : Grew names before.shelf after.shelf
-    grew = grew_all names before.shelf after.shelf asks returned.asks (names_counted names counts many_counts) returned.out
-
-    all_home : first_failed_ask asks ≡ None → AllHome names before.shelf after.shelf
+    pub all_home : first_failed_ask asks ≡ None → AllHome names before.shelf after.shelf
     all_home none =
         let zeros = none_counted names counts many_counts none in
         record { asks = returned.asks ∙ ap (λ (a : List Ask). before.shelf.asks ++ a) (plainly_given names counts many_counts zeros); count = returned.unfailed zeros; out = returned.out }
@@ -197,7 +201,7 @@ module _ (in_turns : Bool) (names : List (List ℕ)) (before after : Outside) (k
           let w = old_of n name.0 name.1 in
           fits v.end (supply_of w.0) (supply_of v) (rows_of n journal) (fresh.count n name.0 w.0 name.1 w.1) (fed_at n w.0 v w.1 new).end
 
-      first_is_failed : first_failed_ask asks ≡ first_failed (ends_of last)
+      pub first_is_failed : first_failed_ask asks ≡ first_failed (ends_of last)
       first_is_failed = first_is names last many_last fit_at
 
       module _ (ended : HaveEnded news) where
@@ -208,13 +212,13 @@ module _ (in_turns : Bool) (names : List (List ℕ)) (before after : Outside) (k
             ends_are (source_end v.end) n name w.0 (rows_of n journal) named w.1
             (read_end v.end (supply_of w.0) (supply_of v) (rows_of n journal) (ended n (supply_of v) (image_get supply_of last n v new)) (fit_at n v new) none (fed_at n w.0 v w.1 new).end)
 
-        all_read : AllRead before.shelf s.plan names asks journal
+        pub all_read : AllRead before.shelf s.plan names asks journal
         all_read n name ask named there not_failed_ask =
             let v = new_of n name named in
             (source_end v.0.end, ended_at n name v.0 named v.1 (zero_of v.0.reader.source.count (sym (ask_is n name v.0 ask named v.1 there) ∙ not_failed_ask)))
 
         -- where none has failed, all were
-        all_end : first_failed (ends_of last) ≡ None → AllEnd before.shelf s.plan names journal (map source_end (ends_of last))
+        pub all_end : first_failed (ends_of last) ≡ None → AllEnd before.shelf s.plan names journal (map source_end (ends_of last))
         all_end none = record {
           many = length-map (ends_of last) source_end ∙ length-map last (λ (w : Working). w.end) ∙ many_last;
           each = λ n name end named at.
@@ -225,7 +229,7 @@ module _ (in_turns : Bool) (names : List (List ℕ)) (before after : Outside) (k
               (ended_at n name v.0 named v.1 (not_failed v.0.end v.0.reader.source.count (λ bad. none_failed (ends_of last) none n e.0 e.1 (v.2 ∙ bad)) (fit_at n v.0 v.1)));
         }
 
-        all_whole : first_failed (ends_of last) ≡ None → first_malformed (map source_end (ends_of last)) ≡ None
+        pub all_whole : first_failed (ends_of last) ≡ None → first_malformed (map source_end (ends_of last)) ≡ None
             → (n : ℕ) (name : List ℕ) → slice_get names n ≡ Some name → Ends (before.shelf.told name) s.plan n (rows_of n journal) Whole
         all_whole none well n name named =
             let v = new_of n name named in
@@ -234,7 +238,7 @@ module _ (in_turns : Bool) (names : List (List ℕ)) (before after : Outside) (k
 
     -- ---- how a run ends
 
-    abbrev run_is : (came : CameTo in_turns first final) → HaveBegun olds came.journal → SourcesRun in_turns s names before.shelf after.shelf
+    abbrev pub run_is : (came : CameBehind in_turns front first final) → HaveBegun olds came.journal → SourcesRun front in_turns s names before.shelf after.shelf
     run_is came begun = record {
       journal = came.journal;
       legal = came.legal;
@@ -244,47 +248,45 @@ module _ (in_turns : Bool) (names : List (List ℕ)) (before after : Outside) (k
       turns = λ asked. go_in_turns came.journal (came.rounds asked);
     }
 
-    abbrev run_through : Through in_turns first final → SourcesRun in_turns s names before.shelf after.shelf
+    abbrev run_through : ThroughBehind in_turns front first final → SourcesRun front in_turns s names before.shelf after.shelf
     run_through through = run_is through.came through.begun
 
-    put_is : (through : Through in_turns first final) → ArePut s before after through.came.journal
+    put_is : (through : ThroughBehind in_turns front first final) → ArePutBehind front s before after through.came.journal
     put_is through = record { trace = through.trace; out = through.out }
 
     -- the counts of the last line
-    done_is : (w : ThroughWell in_turns first final) → Done kept1.accepted kept1.late kept1.state.steps kept1.state.lines ≡ done_line s w.through.came.journal
+    done_is : (w : ThroughWellBehind in_turns front first final) → Done kept1.accepted kept1.late kept1.state.steps kept1.state.lines ≡ done_line_behind s front w.through.came.journal
     done_is w =
         let journal = w.through.came.journal in
+        let steps = length (whole_model s.plan s.start (front ++ journal)) - length (settled_model s.plan s.start front) in
+        let lines = length (final_lines s.plan s.start (front ++ journal) s.show) - length (settled_lines s.plan s.start front s.show) in
         ap (λ a. Done a kept1.late kept1.state.steps kept1.state.lines) w.accepted
         ∙ (ap (λ l. Done (length (accepted journal)) l kept1.state.steps kept1.state.lines) w.late
-        ∙ (ap (λ n. Done (length (accepted journal)) (late_count journal) n kept1.state.lines) w.steps
-        ∙ ap (λ v. Done (length (accepted journal)) (late_count journal) (length (whole_model s.plan s.start journal)) v) w.lines))
+        ∙ (ap (λ n. Done (length (accepted journal)) (late_count journal) n kept1.state.lines) (left_of (length (settled_model s.plan s.start front)) kept1.state.steps (length (whole_model s.plan s.start (front ++ journal))) w.steps)
+        ∙ ap (λ v. Done (length (accepted journal)) (late_count journal) steps v) (left_of (length (settled_lines s.plan s.start front s.show)) kept1.state.lines (length (final_lines s.plan s.start (front ++ journal) s.show)) w.lines)))
 
-    none_first : (w : ThroughWell in_turns first final) → first_failed (ends_of last) ≡ None → first_failed_ask asks ≡ None
+    none_first : (w : ThroughWellBehind in_turns front first final) → first_failed (ends_of last) ≡ None → first_failed_ask asks ≡ None
     none_first w none = first_is_failed w.through.came.journal w.fed ∙ none
 
-    abbrev ended_run : (w : ThroughWell in_turns first final) → first_failed (ends_of last) ≡ None → EndedRun in_turns s names before after
+    abbrev ended_run : (w : ThroughWellBehind in_turns front first final) → first_failed (ends_of last) ≡ None → EndedRun front in_turns s names before after
     ended_run w none = record { run = run_through w.through; put = put_is w.through; asks = asks; home = came_home; all = all_home (none_first w none); no_fault = w.no_fault }
 
-    cut_run : (w : ThroughWell in_turns first final) (at : ℕ) → first_failed (ends_of last) ≡ Some at → CutRun in_turns (UnreadableSource at) s names before after
-    cut_run w at failed =
-        let least : first_failed_ask asks ≡ Some at = first_is_failed w.through.came.journal w.fed ∙ failed in
-        record {
-          run = run_through w.through;
-          put = put_is w.through;
-          no_fault = w.no_fault;
-          asked = grew;
-          home = inr came_home;
-          at = at;
-          least = least;
-          rose = came_home.failed at least;
-          unless_given = λ n ask there none. let given = given_counted names counts n ask there in absurd (cc);
-          read = λ were. (names_counted names counts many_counts, all_read w.through.came.journal w.fed w.ended);
-          line_is = refl;
-        }
+    cut_run : (w : ThroughWellBehind in_turns front first final) (at : ℕ) → first_failed (ends_of last) ≡ Some at → CutRun front in_turns (UnreadableSource at) s names before after
+    cut_run w at failed = record {
+      run = run_through w.through;
+      put = put_is w.through;
+      no_fault = w.no_fault;
+      asks = asks;
+      home = came_home;
+      at = at;
+      least = first_is_failed w.through.came.journal w.fed ∙ failed;
+      read = all_read w.through.came.journal w.fed w.ended;
+      line_is = refl;
+    }
 
     -- a run without a fault, by its sources' ends
-    pub by_ends : (failed : Option ℕ) (m : Option MalformedSource) → first_failed (ends_of last) ≡ failed → first_malformed (map source_end (ends_of last)) ≡ m → ThroughWell in_turns first final
-        → RunsSources in_turns (Line (line_of (end_by failed m) kept1)) s names before after
+    pub by_ends : (failed : Option ℕ) (m : Option MalformedSource) → first_failed (ends_of last) ≡ failed → first_malformed (map source_end (ends_of last)) ≡ m → ThroughWellBehind in_turns front first final
+        → RunsSources front in_turns (Line (line_of (end_by failed m) kept1)) s names before after
     by_ends (Some at) m failed least w = cut_run w at failed
     by_ends None (Some m) failed least w = record {
       ended = ended_run w failed;
@@ -300,12 +302,12 @@ module _ (in_turns : Bool) (names : List (List ℕ)) (before after : Outside) (k
       line_is = done_is w;
     }
 
-    placed : (fault : RunFault) (journal : List Entry) → IsRowFault s journal fault ⊎ feeds.IsAtDeadline journal first final
-        → IsRowFault s journal fault ⊎ IsAtDeadline before.shelf s names asks journal
+    placed : (fault : RunFault) (journal : List Entry) → IsRowFaultBehind s front journal fault ⊎ behind.IsAtDeadlineBehind front journal first final
+        → IsRowFaultBehind s front journal fault ⊎ IsAtDeadlineBehind front before.shelf s names asks journal
     placed fault journal (inl at) = inl at
     placed fault journal (inr at) = inr (record { settled = at.settled; read = all_read journal at.fed at.ended })
 
-    fault_run : (fault : RunFault) → EndedByFault in_turns fault first final → FaultRun in_turns (fault_line s.plan fault) s names before after
+    fault_run : (fault : RunFault) → EndedByFaultBehind in_turns front fault first final → FaultRun front in_turns (fault_line s.plan fault) s names before after
     fault_run fault e = record {
       run = run_through e.through;
       put = put_is e.through;
@@ -317,7 +319,7 @@ module _ (in_turns : Bool) (names : List (List ℕ)) (before after : Outside) (k
       line_is = refl;
     }
 
-    cut_fault_run : (fault : RunFault) → EndedByCutFault in_turns fault first final → CutFaultRun in_turns s names before after
+    cut_fault_run : (fault : RunFault) → EndedByCutFaultBehind in_turns front fault first final → CutFaultRun front in_turns s names before after
     cut_fault_run fault e = record {
       run = run_is e.came e.begun;
       asks = asks;
@@ -330,7 +332,7 @@ module _ (in_turns : Bool) (names : List (List ℕ)) (before after : Outside) (k
     }
 
     -- a failed put ended the run
-    broken_run : RanToFailedPut in_turns first final ⊎ ThroughCut in_turns first final → BrokenRun in_turns s names before after
+    broken_run : RanToFailedPutBehind in_turns front first final ⊎ ThroughCutBehind in_turns front first final → BrokenRun front in_turns s names before after
     broken_run (inl (inl t)) = record { run = run_is t.came t.begun; asks = asks; home = came_home; cut = inl (record { no_fault = t.no_fault; trace = t.trace; out = t.out }) }
     broken_run (inl (inr r)) = record { run = run_is r.came r.begun; asks = asks; home = came_home; cut = inr (inl (record { no_fault = r.no_fault; trace = r.trace; out = r.out })) }
     broken_run (inr d) = record {
@@ -341,22 +343,22 @@ module _ (in_turns : Bool) (names : List (List ℕ)) (before after : Outside) (k
     }
 
     -- there was no memory, for a row or for the end line of a fault
-    out_of_memory : RanOutOfMemory in_turns first final → StoppedRun in_turns s names before after
-    out_of_memory m = record { shelf = grew; how = inl (record { run = run_is m.came m.begun; asks = asks; home = came_home; trace = m.trace; out = inl m.out }) }
+    out_of_memory : RanOutOfMemoryBehind in_turns front first final → UnfinishedRun front in_turns s names before after
+    out_of_memory m = record { run = run_is m.came m.begun; asks = asks; home = came_home; trace = m.trace; out = inl m.out }
 
-    no_line : Through in_turns first final → StoppedRun in_turns s names before after
-    no_line through = record { shelf = grew; how = inl (record { run = run_through through; asks = asks; home = came_home; trace = through.trace; out = inr through.out }) }
+    no_line : ThroughBehind in_turns front first final → UnfinishedRun front in_turns s names before after
+    no_line through = record { run = run_through through; asks = asks; home = came_home; trace = through.trace; out = inr through.out }
 
-    pub ran_sources : (how : Result (Unit {0}) Stop) (outcome : CallEnd) → OutcomeAfter how (end_of (ends_of last)) s.plan kept1 outcome → EndsRun in_turns how first final → RunsSources in_turns outcome s names before after
+    pub ran_sources : (how : Result (Unit {0}) Stop) (outcome : CallEnd) → OutcomeAfter how (end_of (ends_of last)) s.plan kept1 outcome → EndsBehind in_turns front how first final → RunsSources front in_turns outcome s names before after
     ran_sources (Ok done) outcome is ran =
-        subst (λ o. RunsSources in_turns o s names before after) (sym is) (by_ends (first_failed (ends_of last)) (first_malformed (map source_end (ends_of last))) refl refl ran)
+        subst (λ o. RunsSources front in_turns o s names before after) (sym is) (by_ends (first_failed (ends_of last)) (first_malformed (map source_end (ends_of last))) refl refl ran)
     ran_sources (Err (stop.Fault stream kind time)) outcome (inl is) ran =
-        subst (λ o. RunsSources in_turns o s names before after) (sym is) (fault_run (record { stream = stream; kind = kind; time = time }) ran)
-    ran_sources (Err (stop.Fault stream kind time)) outcome (inr is) ran = subst (λ o. RunsSources in_turns o s names before after) (sym is) (no_line ran.through)
+        subst (λ o. RunsSources front in_turns o s names before after) (sym is) (fault_run (record { stream = stream; kind = kind; time = time }) ran)
+    ran_sources (Err (stop.Fault stream kind time)) outcome (inr is) ran = subst (λ o. RunsSources front in_turns o s names before after) (sym is) (no_line ran.through)
     ran_sources (Err (stop.CutFault stream kind time)) outcome is ran =
-        subst (λ o. RunsSources in_turns o s names before after) (sym is) (cut_fault_run (record { stream = stream; kind = kind; time = time }) ran)
-    ran_sources (Err stop.Put) outcome is ran = subst (λ o. RunsSources in_turns o s names before after) (sym is) (broken_run ran)
-    ran_sources (Err stop.Memory) outcome is ran = subst (λ o. RunsSources in_turns o s names before after) (sym is) (out_of_memory ran)
+        subst (λ o. RunsSources front in_turns o s names before after) (sym is) (cut_fault_run (record { stream = stream; kind = kind; time = time }) ran)
+    ran_sources (Err stop.Put) outcome is ran = subst (λ o. RunsSources front in_turns o s names before after) (sym is) (broken_run ran)
+    ran_sources (Err stop.Memory) outcome is ran = subst (λ o. RunsSources front in_turns o s names before after) (sym is) (out_of_memory ran)
 
 -- ---- sources that were lent
 
@@ -379,90 +381,73 @@ lent_fresh plan names rooms before mid lent is are = record {
 
 -- ---- sources that were not
 
--- no row
-abbrev no_rows : List ℕ → List Row
-no_rows name = []
-
-named_empty : (names : List (List ℕ)) (n : ℕ) (rows : List Row) → slice_get (map no_rows names) n ≡ Some rows → rows ≡ []
-named_empty names n rows is = let r = get_image no_rows names n rows is in r.2
-
--- where no row was taken nothing is traced or put, and nothing fails
-pub record NoRows (s : Setting) (out trace : SinkState) : Type 0 where
-  pub traced : trace ≡ grown trace []
-  pub put : out ≡ grown out (verdicts s [])
-  pub no_fault : fault_in s [] ≡ None
-
--- a source was not given: nothing was taken
-pub not_given : (in_turns : Bool) (at : ℕ) (s : Setting) (names : List (List ℕ)) (before after : ShelfState) (out trace : SinkState) → NoRows s out trace → IsNotGiven at names before after
-    → CutRun in_turns (UnreadableSource at) s names (outside before out trace) (outside after out trace)
-not_given in_turns at s names before after out trace none_of broke =
-    let asks : List Ask = map given_ask (take at names) ++ failed_ask broke.name ∷ [] in
-    let least : first_failed_ask asks ≡ Some at = first_not_given names at broke.name broke.is in
-    let front = front_asked names at broke.name broke.is in
-    record {
-      run = record {
-        journal = [];
-        legal = tt;
-        sources = All-nil (λ (e : Entry). e.row.source < length names);
-        traceable = tt;
-        rows = λ n name named bytes told. ((source_rows s.plan n bytes).rows, refl);
-        turns = λ asked. record {
-          lists = map no_rows names;
-          many = length-map names no_rows;
-          fronts = λ n name rows named there bytes told.
-              ((source_rows s.plan n bytes).rows, ap (λ (r : List Row). r ++ (source_rows s.plan n bytes).rows) (sym (named_empty names n rows there)));
-          whole = λ none. let some : first_failed_ask (asks_between before after) ≡ Some at = ap first_failed_ask (between before after asks broke.asks) ∙ least in absurd (cc);
-          first = record { rounds = 0; rest = []; joined = refl };
-        };
-      };
-      put = record { trace = none_of.traced; out = none_of.put };
-      no_fault = none_of.no_fault;
-      asked = record { asks = asks; appended = broke.asks; front = front; home = broke.out };
-      home = inl refl;
-      at = at;
-      least = least;
-      rose = broke.rose;
-      unless_given = λ n ask there none. refl;
-      read = λ were. let given : (failed_ask broke.name).given ≡ true = last_given (map given_ask (take at names)) (failed_ask broke.name) were in absurd (cc);
-      line_is = refl;
-    }
-
--- no memory for all sources: nothing was taken
-pub not_fetched : (in_turns : Bool) (s : Setting) (names : List (List ℕ)) (before after : ShelfState) (out trace : SinkState) → IsStopped names before after
-    → StoppedRun in_turns s names (outside before out trace) (outside after out trace)
-not_fetched in_turns s names before after out trace stopped = record {
-  shelf = record {
-    asks = map given_ask (take stopped.asked names);
-    appended = stopped.asks;
-    front = (drop stopped.asked names, sym (ap (λ (l : List (List ℕ)). l ++ drop stopped.asked names) (names_given (take stopped.asked names)) ∙ take-append-drop stopped.asked names));
-    home = stopped.out;
-  };
-  how = inr (record { trace = refl; out = refl });
+-- a source was not given
+pub not_given : (at : ℕ) (names : List (List ℕ)) (before after : ShelfState) (out trace : SinkState) → IsNotGiven at names before after
+    → NotGivenRun (Line (UnreadableSource at)) (outside before out trace) (outside after out trace)
+not_given at names before after out trace broke = record {
+  at = at;
+  outcome_is = refl;
+  asks = map given_ask (take at names) ++ failed_ask broke.name ∷ [];
+  appended = broke.asks;
+  least = first_not_given names at broke.name broke.is;
+  ask = failed_ask broke.name;
+  is_ask = ask_not_given names at broke.name broke.is;
+  not_given = refl;
+  rose = broke.rose;
+  early = record { trace = refl; out = refl };
 }
 
--- no memory before any source was asked for
-pub not_asked : (in_turns : Bool) (s : Setting) (names : List (List ℕ)) (shelf : ShelfState) (out trace : SinkState) → StoppedRun in_turns s names (outside shelf out trace) (outside shelf out trace)
-not_asked in_turns s names shelf out trace = record { shelf = grew_none names shelf; how = inr (record { trace = refl; out = refl }) }
+-- no memory before any source was read
+pub not_begun : (before after : ShelfState) (out trace : SinkState) → NotBegunRun Memory (outside before out trace) (outside after out trace)
+not_begun before after out trace = record { outcome_is = refl; early = record { trace = refl; out = refl } }
 
 -- not all sources were fetched
-pub unfetched_run : (in_turns : Bool) (end : FetchStop) (s : Setting) (names : List (List ℕ)) (rooms : List Shape) (before after : ShelfState) (out trace : SinkState) (workers : List Working) → NoRows s out trace → Fetches (Err end) names rooms before after workers
-    → RunsSources in_turns (unfetched end) s names (outside before out trace) (outside after out trace)
-unfetched_run in_turns (fetch.Failed at) s names rooms before after out trace workers none_of fetches = not_given in_turns at s names before after out trace none_of fetches
-unfetched_run in_turns fetch.Memory s names rooms before after out trace workers none_of fetches = not_fetched in_turns s names before after out trace fetches
+pub unfetched_run : (in_turns : Bool) (end : FetchStop) (kept : Keeping) (names : List (List ℕ)) (rooms : List Shape) (before after : ShelfState) (out trace : SinkState) (workers : List Working) → Fetches (Err end) names rooms before after workers
+    → TakesSources in_turns (unfetched end) kept names (outside before out trace) (outside after out trace)
+unfetched_run in_turns (fetch.Failed at) kept names rooms before after out trace workers fetches = inl (not_given at names before after out trace fetches)
+unfetched_run in_turns fetch.Memory kept names rooms before after out trace workers fetches = inr (inl (not_begun before after out trace))
+
+-- the first of the names were asked for
+pub grew_unfetched : (end : FetchStop) (names : List (List ℕ)) (rooms : List Shape) (before after : ShelfState) (workers : List Working) → Fetches (Err end) names rooms before after workers → Grew names before after
+grew_unfetched (fetch.Failed at) names rooms before after workers broke =
+    record { asks = map given_ask (take at names) ++ failed_ask broke.name ∷ []; appended = broke.asks; front = front_asked names at broke.name broke.is; home = broke.out }
+grew_unfetched fetch.Memory names rooms before after workers stopped = record {
+  asks = map given_ask (take stopped.asked names);
+  appended = stopped.asks;
+  front = (drop stopped.asked names, sym (ap (λ (l : List (List ℕ)). l ++ drop stopped.asked names) (names_given (take stopped.asked names)) ∙ take-append-drop stopped.asked names));
+  home = stopped.out;
+}
 
 -- ---- sources that were lent, run and given back
 
 pub as_many : (lent last : List Working) → places_of last ≡ places_of lent → length last ≡ length lent
 as_many lent last same = sym (length-map last (λ (w : Working). w.reader.source.place)) ∙ ap length same ∙ length-map lent (λ (w : Working). w.reader.source.place)
 
-pub ran_lent : (in_turns : Bool) (names : List (List ℕ)) (rooms : List Shape) (before mid after : ShelfState) (out0 trace0 out1 trace1 : SinkState) (kept0 kept1 : Keeping) (lent last : List Working) (how : Result (Unit {0}) Stop) (outcome : CallEnd)
+pub ran_lent : (front : List Entry) (in_turns : Bool) (names : List (List ℕ)) (rooms : List Shape) (before mid after : ShelfState) (out0 trace0 out1 trace1 : SinkState) (kept0 kept1 : Keeping) (lent last : List Working) (how : Result (Unit {0}) Stop) (outcome : CallEnd)
     → IsLent names rooms before mid lent → AreRooms kept0.state.plan (length names) most_rows rooms → places_of last ≡ places_of lent → HasReturned names (counts_of last) before after
     → kept1.state.plan ≡ kept0.state.plan → OutcomeAfter how (end_of (ends_of last)) kept1.state.plan kept1 outcome
-    → EndsRun in_turns how (world kept0 (map supply_of lent) out0 trace0) (world kept1 (map supply_of last) out1 trace1)
-    → RunsSources in_turns outcome (setting_in kept0) names (outside before out0 trace0) (outside after out1 trace1)
-ran_lent in_turns names rooms before mid after out0 trace0 out1 trace1 kept0 kept1 lent last how outcome is are places returned same ends ran =
-    ran_sources in_turns names (outside before out0 trace0) (outside after out1 trace1) kept0 kept1 lent last (lent_fresh kept0.state.plan names rooms before mid lent is are) (as_many lent last places) returned
+    → EndsBehind in_turns front how (world kept0 (map supply_of lent) out0 trace0) (world kept1 (map supply_of last) out1 trace1)
+    → RunsSources front in_turns outcome (setting_in kept0) names (outside before out0 trace0) (outside after out1 trace1)
+ran_lent front in_turns names rooms before mid after out0 trace0 out1 trace1 kept0 kept1 lent last how outcome is are places returned same ends ran =
+    ran_sources front in_turns names (outside before out0 trace0) (outside after out1 trace1) kept0 kept1 lent last (lent_fresh kept0.state.plan names rooms before mid lent is are) (as_many lent last places) returned
     how outcome (subst (λ (p : Plan). OutcomeAfter how (end_of (ends_of last)) p kept1 outcome) same ends) ran
+
+-- each was asked for
+pub grew_lent : (names : List (List ℕ)) (rooms : List Shape) (before mid after : ShelfState) (lent last : List Working) → IsLent names rooms before mid lent → places_of last ≡ places_of lent → HasReturned names (counts_of last) before after → Grew names before after
+grew_lent names rooms before mid after lent last is places returned =
+    let many : length (counts_of last) ≡ length names = length-map last (λ (w : Working). w.reader.source.count) ∙ (as_many lent last places ∙ is.many) in
+    grew_all names before after (asks_of names (counts_of last)) returned.asks (names_counted names (counts_of last) many) returned.out
+
+-- which ends there are
+pub ends_sources : (how : Result (Unit {0}) Stop) (end : SourcesEnd) (plan : Plan) (kept : Keeping) (outcome : CallEnd) → OutcomeAfter how end plan kept outcome → EndsSources outcome
+ends_sources (Ok done) sources_end.Whole plan kept outcome is = subst EndsSources (sym is) tt
+ends_sources (Ok done) (sources_end.ReadFailed at) plan kept outcome is = subst EndsSources (sym is) tt
+ends_sources (Ok done) (sources_end.Malformed source row kind) plan kept outcome is = subst EndsSources (sym is) tt
+ends_sources (Err (stop.Fault stream kind time)) end plan kept outcome (inl is) = subst EndsSources (sym is) tt
+ends_sources (Err (stop.Fault stream kind time)) end plan kept outcome (inr is) = subst EndsSources (sym is) tt
+ends_sources (Err (stop.CutFault stream kind time)) end plan kept outcome is = subst EndsSources (sym is) tt
+ends_sources (Err stop.Put) end plan kept outcome is = subst EndsSources (sym is) tt
+ends_sources (Err stop.Memory) end plan kept outcome is = subst EndsSources (sym is) tt
 
 -- they can be given back
 pub still_given : (shelf : List Ask) (lent last : List Working) → places_of last ≡ places_of lent → shelves.AreGiven shelf (places_of lent) → shelves.AreGiven shelf (places_of last)

@@ -1,3 +1,4 @@
+mod TextsReceived
 pub mod Listed
 pub mod FailedAsks
 pub mod Finding
@@ -5,21 +6,36 @@ pub mod Shelves
 pub mod BytesRead
 pub mod Specifications
 pub mod Asking
+pub mod AnyCommand
 pub mod Calls
 pub mod Laws
 pub mod Lent
 pub mod Options
+pub mod BehindNothing
 pub mod Working
+pub mod TextsFirst
+pub mod GoneOn
+pub mod StateRuns
 pub mod Means
 pub mod Commands
 pub mod Replays
+pub mod Loading
+pub mod SavingStates
+pub mod SnapshotRows
+pub mod SnapshotWorks
+pub mod SnapshotMeans
+pub mod SnapshotEnds
+pub mod SnapshotStatuses
 pub mod ReplayMeans
 pub mod ReplayStatuses
 pub mod DrillEnds
 pub mod Ends
+pub mod ResumedEnds
 pub mod Statuses
+pub mod ResumedStatuses
 pub mod Drilled
 pub mod SourceNumbers
 pub mod Marking
 pub mod AllRounds
 pub mod WholeDrills
+mod AnyEnds

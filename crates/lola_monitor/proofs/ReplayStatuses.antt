@@ -1,6 +1,5 @@
 -- Which status a replay has, from what it was given.
 use Rattle.std.proofs.Common.{◌≡◌, ◌⊎◌, ℕ, List, inl, inr, None, Some, refl, ap, ◌∙◌, subst}
-use Rattle.lola_model.specs.declared.plan.Plan.{Plan}
 use Rattle.lola_front.specs.Front.{IsPlanOf}
 use Rattle.lola_replay.specs.Findings.{Finds}
 use Rattle.lola_replay.specs.declared.finding.Finding.{Finding}
@@ -10,7 +9,7 @@ use Rattle.lola_monitor_command.specs.declared.command.DrillCommand.{DrillComman
 use Rattle.lola_monitor.specs.Command.{Names, ReplayNames, drill_of, replay_named, replay_of, run_of, specification_of}
 use Rattle.lola_monitor.specs.Drilling.{IsCutDrill, IsDrilled, IsFaultyDrill, IsMalformedDrill, IsRefusedDrill}
 use Rattle.lola_monitor.specs.Monitor.{Call, IsAnalysed, IsBroken, IsCutAnalysis, IsCutShort, IsDone, IsFault, IsMalformed, IsRefused, IsUnread, IsUsage}
-use Rattle.lola_monitor.specs.Replaying.{Differs, IsCutReplay, IsFoundOther, IsFoundSame, IsOtherReplay, IsSameReplay, IsText, IsToldReplay, IsUnreadText, ReplayIn, told_by}
+use Rattle.lola_monitor.specs.Replaying.{Differs, IsCutReplay, IsFoundOther, IsFoundSame, IsOtherReplay, IsSameReplay, IsToldReplay, IsUnreadText, ReplayIn, told_by}
 use Rattle.lola_monitor.proofs.Commands.{no_drill, no_replayed_analysis, no_replayed_run, replay_specification, same_name, same_replays}
 use Rattle.lola_monitor.proofs.Laws.{OneFinding}
 use Rattle.lola_monitor.proofs.Means.{Means, by_status}

@@ -1,19 +1,18 @@
 -- A replay, after its specification was read.
-use Rattle.std.proofs.Common.{◌≡◌, ℕ, ◌+◌, List, [], ◌∷◌, ◌++◌, Option, None, Some, Bool, inl, refl, sym, ap, if◌then◌else◌, ◌∙◌, subst, append_assoc}
+use Rattle.std.proofs.Common.{◌≡◌, ℕ, ◌+◌, List, [], ◌∷◌, ◌++◌, None, Some, Bool, inl, refl, ap, if◌then◌else◌, ◌∙◌, subst, append_assoc}
 use Rattle.std.specs.Option.{option_map}
 use Rattle.lola_port.specs.Asks.{given_ask}
 use Rattle.lola_port.specs.States.{Rose, ShelfState}
 use Rattle.lola_port.specs.declared.traits.Ask.{Ask}
 use Rattle.lola_model.specs.declared.plan.Plan.{Plan}
-use Rattle.lola_replay.specs.Findings.{Told}
 use Rattle.lola_replay.specs.declared.end.ReplayEnd.TheVariants.{Found, UnreadableTrace, UnreadableVerdicts}
-use Rattle.lola_monitor.specs.Command.{ReplayNames, replay_names, replay_of}
+use Rattle.lola_monitor.specs.Command.{ReplayNames, replay_of}
 use Rattle.lola_monitor.specs.Monitor.{Outside, asks_between, first_failed_ask}
-use Rattle.lola_monitor.specs.Outcomes.{AreUntouched, Grew, Marred, ReadPlan, Stopped, Works, noted}
+use Rattle.lola_monitor.specs.Outcomes.{AreUntouched, Grew, ReadPlan, Stopped, Works, noted}
 use Rattle.lola_monitor.specs.Replaying.{IsText, OfReplay, told_by}
 use Rattle.lola_monitor.specs.ReplayOutcomes.{Judges, ReplaysTexts}
 use Rattle.lola_monitor.specs.declared.outcome.CallEnd.{CallEnd}
-use Rattle.lola_monitor.specs.declared.outcome.CallEnd.TheVariants.{Line, Drilled, Report, Replayed, CutFault, Put, Memory}
+use Rattle.lola_monitor.specs.declared.outcome.CallEnd.TheVariants.{Line, Drilled, Report, Replayed, Stated, CutFault, Put, Memory}
 use Rattle.lola_monitor.proofs.Calls.{between, grew_noted, grew_stopped, grew_twice}
 
 module _ (plan : Plan) (names : ReplayNames) (before : ShelfState) where
@@ -36,6 +35,7 @@ module _ (plan : Plan) (names : ReplayNames) (before : ShelfState) where
     replays_texts (Replayed (Found finding)) judged = record { trace = trace; is_trace = is_trace; verdicts = verdicts; are_verdicts = are_verdicts; shelf = read; finds = judged }
     replays_texts (Replayed UnreadableTrace) judged = absurd judged
     replays_texts (Replayed UnreadableVerdicts) judged = absurd judged
+    replays_texts (Stated end) judged = absurd judged
     replays_texts CutFault judged = absurd judged
     replays_texts Put judged = absurd judged
     replays_texts Memory judged = grew_twice names.trace (names.verdicts ∷ []) before mid after refl (grew_noted names.verdicts [] mid after read)
@@ -101,6 +101,7 @@ module _ (words : List (List ℕ)) (names : ReplayNames) (plan : Plan) (before a
     };
     early = early;
   }
+  works_replayed (Stated end) r = absurd r
   works_replayed CutFault r = absurd r
   works_replayed Put r = absurd r
   works_replayed Memory r = inl (record { trace = early.trace; out = early.out })

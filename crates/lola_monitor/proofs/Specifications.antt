@@ -36,6 +36,11 @@ pub plan_of_all : (bytes all : List ℕ) (plan : Plan) → IsReadFront 1048576 b
 plan_of_all bytes all plan (inl same) is = subst (λ (b : List ℕ). IsPlanOf b plan) same is
 plan_of_all bytes all plan (inr cut) is = absurd (not_long bytes _ is.full.resolved.read.cut cut.0)
 
+-- where there is a plan, all bytes were read
+pub all_read : (bytes all : List ℕ) (plan : Plan) → IsReadFront 1048576 bytes all → IsPlanOf bytes plan → bytes ≡ all
+all_read bytes all plan (inl same) is = same
+all_read bytes all plan (inr cut) is = absurd (not_long bytes _ is.full.resolved.read.cut cut.0)
+
 refusal_of_long : (bytes all rest : List ℕ) (r : Refusal) → 1048576 < length bytes → all ≡ bytes ++ rest → IsRefusalOf bytes r → IsRefusalOf all r
 refusal_of_long bytes all rest r more is (inl token) = inl (long all (longer bytes all rest more is) ∙ sym (long bytes more) ∙ token)
 refusal_of_long bytes all rest r more is (inr (inl syntax)) = absurd (not_long bytes _ syntax.cut more)

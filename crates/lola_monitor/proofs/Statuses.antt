@@ -1,5 +1,5 @@
 -- Which status a call has, from what it was given.
-use Rattle.std.proofs.Common.{◌≡◌, ◌⊎◌, ℕ, suc, List, [], ◌∷◌, Option, inl, inr, None, Some, slice_get, refl, sym, ap, ◌∙◌, subst, arith}
+use Rattle.std.proofs.Common.{◌≡◌, ◌⊎◌, ℕ, suc, List, [], ◌∷◌, inl, inr, None, Some, slice_get, refl, sym, ap, ◌∙◌, subst, arith}
 use Rattle.std.specs.Option.{option_map}
 use Rattle.lola_port.specs.declared.traits.Ask.{Ask}
 use Rattle.lola_rows.specs.Rows.{SourceEnd, SourceRows, Whole, MalformedAt}
@@ -10,7 +10,7 @@ use Rattle.lola_model.specs.declared.plan.Plan.{Plan}
 use Rattle.lola_report_lines.specs.declared.end.EndLine.{EndLine}
 use Rattle.lola_monitor_command.specs.Command.{command_of}
 use Rattle.lola_monitor_command.specs.declared.command.DrillCommand.{DrillCommand}
-use Rattle.lola_monitor_run.specs.Verdicts.{Setting, fault_in}
+use Rattle.lola_monitor_run.specs.Verdicts.{Setting}
 use Rattle.lola_monitor.specs.Command.{Names, ReplayNames, analysed_named, analysed_of, drill_named, drill_of, replay_named, replay_of, run_by, run_of, specification_named, specification_of}
 use Rattle.lola_monitor.specs.Drilling.{IsCleanDrill, IsCutDrill, IsDrillFault, IsDrillMalformed, IsDrilled, IsFaultyDrill, IsMalformedDrill, IsRefusedDrill, drill_rows}
 use Rattle.lola_monitor.specs.Monitor.{Call, CutsOff, IsAnalysed, IsBroken, IsClean, IsCleanAnalysis, IsCutAnalysis, IsCutShort, IsDone, IsFault, IsMalformed, IsRefused, IsSpoiled, IsUnread, IsUsage, Plans, Rows, first_malformed, one_further, setting_of, source_rows}
@@ -23,11 +23,11 @@ use Rattle.lola_monitor.proofs.Means.{Means, by_status}
 use Rattle.lola_monitor.proofs.ReplayStatuses.{replay_other, replay_same}
 use Rattle.lola_monitor.proofs.WholeDrills.{whole_with_fault}
 
-is_whole : (end : SourceEnd) (r : SourceRows) (rows : List Row) → r.end ≡ Whole → r ≡ record { rows = rows; end = end } → end ≡ Whole
+pub is_whole : (end : SourceEnd) (r : SourceRows) (rows : List Row) → r.end ≡ Whole → r ≡ record { rows = rows; end = end } → end ≡ Whole
 is_whole end r rows first second = sym (ap (λ (x : SourceRows). x.end) second) ∙ first
 
 -- where all ends are well, none is malformed
-none_malformed : (ends : List SourceEnd) → ((s : ℕ) (end : SourceEnd) → slice_get ends s ≡ Some end → end ≡ Whole) → first_malformed ends ≡ None
+pub none_malformed : (ends : List SourceEnd) → ((s : ℕ) (end : SourceEnd) → slice_get ends s ≡ Some end → end ≡ Whole) → first_malformed ends ≡ None
 none_malformed [] all = refl
 none_malformed (Whole ∷ ends) all = ap (option_map one_further) (none_malformed ends (λ s end is. all (suc s) end is))
 none_malformed (MalformedAt kind row ∷ ends) all = let bad : MalformedAt kind row ≡ Whole = all 0 (MalformedAt kind row) refl in absurd (cc)

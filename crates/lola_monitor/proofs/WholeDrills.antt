@@ -1,9 +1,8 @@
 -- A drill that met a fault at a row goes on to all rows of both sources, and has that fault there too.
-use Rattle.std.proofs.Common.{◌≡◌, ◌⊎◌, ◌<◌, ℕ, List, [], ◌∷◌, ◌++◌, Some, None, inl, inr, sym, ap, ◌∙◌, append_assoc}
+use Rattle.std.proofs.Common.{◌≡◌, ◌⊎◌, ℕ, List, [], ◌∷◌, ◌++◌, Some, None, inl, inr, sym, ap, ◌∙◌, append_assoc}
 use Rattle.lola_model.specs.Faults.{RunFault}
 use Rattle.lola_model.specs.Journal.{rows_of}
 use Rattle.lola_model.specs.declared.journal.Entry.{Entry}
-use Rattle.lola_model.specs.declared.journal.Row.{Row}
 use Rattle.lola_report_lines.specs.declared.end.EndLine.{EndLine}
 use Rattle.lola_monitor_command.specs.declared.command.DrillCommand.{DrillCommand}
 use Rattle.lola_feed.specs.Drills.{drill_bytes}

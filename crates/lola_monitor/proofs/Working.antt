@@ -1,31 +1,43 @@
--- A command's run, after its specification was read.
-use Rattle.std.proofs.Common.{◌≡◌, ◌⊎◌, ℕ, ◌+◌, List, [], ◌∷◌, ◌++◌, Option, None, Some, Err, Bool, map, inl, inr, refl, sym, ap, if◌then◌else◌, ◌∙◌, subst, append_assoc, arith, length-append}
+-- A command's run that begins anew, after its specification was read.
+use Rattle.std.proofs.Common.{◌≡◌, ◌⊎◌, ℕ, ◌+◌, ◌<◌, List, [], ◌∷◌, ◌++◌, Option, None, Some, Err, Bool, map, length, slice_get, inl, inr, refl, sym, ap, if◌then◌else◌, ◌∙◌, subst, append_assoc, arith, length-append}
+use Rattle.std.proofs.lemmas.List.{length-map}
+use Rattle.std.proofs.lemmas.List.Elements.{All-nil}
 use Rattle.std.specs.Option.{option_map}
 use Rattle.lola_port.specs.Asks.{given_ask}
-use Rattle.lola_port.specs.States.{PutBroke, Rose, ShelfState, SinkState}
+use Rattle.lola_port.specs.States.{PutBroke, Rose, ShelfState, SinkState, grown}
 use Rattle.lola_port.specs.declared.traits.Ask.{Ask}
 use Rattle.lola_model.specs.Journal.{rows_of}
 use Rattle.lola_model.specs.Acceptance.{IsAccepted}
 use Rattle.lola_model.specs.Faults.{RunFault}
 use Rattle.lola_model.specs.declared.plan.Plan.{Plan}
 use Rattle.lola_model.specs.declared.journal.Entry.{Entry}
+use Rattle.lola_model.specs.declared.journal.Row.{Row}
 use Rattle.lola_rows.specs.Rows.{Whole}
 use Rattle.lola_report_lines.specs.Ends.{end_text}
 use Rattle.lola_report_lines.specs.declared.end.EndLine.TheVariants.{Done, Usage, Refused, Malformed, Fault, UnreadableSpecification, UnreadableSource, Analysed}
-use Rattle.lola_monitor_run.specs.Verdicts.{IsRowFault, Setting, verdicts}
+use Rattle.lola_monitor_run.specs.Verdicts.{HasFront, IsRowFault, Setting, verdicts}
+use Rattle.lola_monitor_run.specs.Running.{Keeping, setting_in}
+use Rattle.lola_monitor_run.specs.Behind.{HasFrontBehind, IsBehind, IsRowFaultBehind, verdicts_behind}
+use Rattle.lola_monitor_run.proofs.Fronts.{nothing_fails, nothing_final}
+use Rattle.lola_monitor_run.proofs.Sinks.{grown_nil}
+use Rattle.lola_monitor_run.proofs.TextsBehind.{settled_first, verdicts_first}
 use Rattle.lola_monitor_command.specs.declared.command.DrillCommand.{DrillCommand}
 use Rattle.lola_monitor.specs.Command.{Names, analysed_of, drill_of, run_of, specification_of}
 use Rattle.lola_monitor.specs.Drilling.{DrillsBy}
-use Rattle.lola_monitor.specs.Monitor.{AllBegin, AllGiven, AllRead, Begins, CutsOff, Ends, GoInTurns, HasItsModels, HasRows, IsAtDeadline, IsEarly, IsUnfinished, Outside, Plans, Ran, WereGiven, analysis_text, asks_between, call, fault_line, first_failed_ask, setting_of}
-use Rattle.lola_monitor.specs.Outcomes.{AllHome, AreUntouched, ArePut, CameHome, Marred, PlansName, ReadPlan, RunsSources, SourcesRun, UnfinishedRun, Works, noted, without_plan}
+use Rattle.lola_monitor.specs.Monitor.{AllBegin, AllGiven, AllRead, Begins, CutsOff, Ends, GoInTurns, HasItsModels, HasRows, IsAtDeadline, IsUnfinished, Outside, Plans, Ran, WereGiven, analysis_text, asks_between, call, fault_line, first_failed_ask, setting_of, source_rows}
+use Rattle.lola_monitor.specs.Outcomes.{AllHome, AreUntouched, ArePut, ArePutBehind, CameHome, IsAtDeadlineBehind, Marred, NotGivenRun, PlansName, ReadPlan, RunsSources, SourcesRun, TakesSources, UnfinishedRun, Works, noted, without_plan}
+use Rattle.lola_monitor.specs.Resumed.{CutsOffBehind}
 use Rattle.lola_monitor.specs.declared.outcome.CallEnd.{CallEnd}
-use Rattle.lola_monitor.specs.declared.outcome.CallEnd.TheVariants.{Line, Drilled, Report, Replayed, CutFault, Put, Memory}
+use Rattle.lola_monitor.specs.declared.outcome.CallEnd.TheVariants.{Line, Drilled, Report, Replayed, Stated, CutFault, Put, Memory}
 use Rattle.lola_monitor.specs.declared.outcome.Unplanned.{Unplanned}
 use Rattle.lola_monitor.specs.declared.outcome.Unplanned.TheVariants as unplanned
+use Rattle.lola_monitor.proofs.BehindNothing.{cut_at_deadline_first, cut_at_row_first, done_first, has_front_first, row_fault_first}
 use Rattle.lola_monitor.proofs.Calls.{between}
+use Rattle.lola_monitor.proofs.FailedAsks.{given_at}
+use Rattle.lola_monitor.proofs.Listed.{get_image}
 
 -- a part of a text is one of that text and more
-broke_before : (old new : SinkState) (text more : List ℕ) → PutBroke old new text → PutBroke old new (text ++ more)
+pub broke_before : (old new : SinkState) (text more : List ℕ) → PutBroke old new text → PutBroke old new (text ++ more)
 broke_before old new text more broke = record {
   part = broke.part;
   is_part = record {
@@ -42,6 +54,32 @@ broke_before old new text more broke = record {
 none_behind : (o : Option ℕ) → option_map (λ n. n + 1) o ≡ None → o ≡ None
 none_behind None is = refl
 none_behind (Some n) is = absurd (cc)
+
+-- where a source was not given there is no row
+abbrev no_row : List ℕ → List Row
+no_row name = []
+
+none_empty : (names : List (List ℕ)) (n : ℕ) (rows : List Row) → slice_get (map no_row names) n ≡ Some rows → rows ≡ []
+none_empty names n rows is = let r = get_image no_row names n rows is in r.2
+
+pub no_turns : (plan : Plan) (names : List (List ℕ)) (before after : ShelfState) (at : ℕ) → first_failed_ask (asks_between before after) ≡ Some at → GoInTurns names plan before after []
+no_turns plan names before after at some = record {
+  lists = map no_row names;
+  many = length-map names no_row;
+  fronts = λ n name rows named there bytes told. ((source_rows plan n bytes).rows, ap (λ (r : List Row). r ++ (source_rows plan n bytes).rows) (sym (none_empty names n rows there)));
+  whole = λ none. absurd (cc);
+  first = record { rounds = 0; rest = []; joined = refl };
+}
+
+abbrev pub no_rows : (in_turns : Bool) (s : Setting) (names : List (List ℕ)) (before after : ShelfState) (at : ℕ) → first_failed_ask (asks_between before after) ≡ Some at → SourcesRun [] in_turns s names before after
+no_rows in_turns s names before after at some = record {
+  journal = [];
+  legal = tt;
+  sources = All-nil (λ (e : Entry). e.row.source < length names);
+  traceable = tt;
+  rows = λ n name named bytes told. ((source_rows s.plan n bytes).rows, refl);
+  turns = λ asked. no_turns s.plan names before after at some;
+}
 
 module _ (words : List (List ℕ)) (names : Names) (plan : Plan) (before after : Outside) (shelf : ShelfState) where
   abbrev s : Setting
@@ -91,7 +129,7 @@ module _ (words : List (List ℕ)) (names : Names) (plan : Plan) (before after :
       first = turns.first;
     }
 
-    abbrev ran : (asks : List Ask) → after.shelf.asks ≡ shelf.asks ++ asks → (run : SourcesRun names.in_turns s names.sources shelf after.shelf)
+    abbrev ran : (asks : List Ask) → after.shelf.asks ≡ shelf.asks ++ asks → (run : SourcesRun [] names.in_turns s names.sources shelf after.shelf)
         → (run.journal ≡ []) ⊎ WereGiven names.sources asks before.shelf after.shelf → Ran words before.shelf after.shelf
     ran asks is run given = record {
       names = names;
@@ -112,43 +150,44 @@ module _ (words : List (List ℕ)) (names : Names) (plan : Plan) (before after :
     }
 
     -- of sources that were all given
-    abbrev ran_home : (asks : List Ask) → SourcesRun names.in_turns s names.sources shelf after.shelf → CameHome names.sources asks shelf after.shelf → Ran words before.shelf after.shelf
+    abbrev ran_home : (asks : List Ask) → SourcesRun [] names.in_turns s names.sources shelf after.shelf → CameHome names.sources asks shelf after.shelf → Ran words before.shelf after.shelf
     ran_home asks run home = ran asks home.appended run (inr (were_given asks home))
 
     -- the same before the specification was asked for
-    abbrev put_so : (journal : List Entry) → ArePut s mid after journal → ArePut s before after journal
-    put_so journal put = record { trace = put.trace; out = put.out }
+    abbrev put_so : (journal : List Entry) → ArePutBehind [] s mid after journal → ArePut s before after journal
+    put_so journal put = record { trace = put.trace; out = put.out ∙ ap (grown before.out) (verdicts_first s journal) }
 
-    cut_so : (asks : List Ask) (journal : List Entry) → CutsOff s names.sources asks mid after journal → CutsOff s names.sources asks before after journal
-    cut_so asks journal (inl t) = inl (record { no_fault = t.no_fault; trace = t.trace; out = t.out })
-    cut_so asks journal (inr (inl r)) = inr (inl (record { no_fault = r.no_fault; trace = r.trace; out = r.out }))
-    cut_so asks journal (inr (inr d)) = inr (inr (record { no_fault = d.no_fault; read = all_read asks journal d.read; trace = d.trace; out = d.out }))
+    cut_so : (asks : List Ask) (journal : List Entry) → CutsOffBehind s [] names.sources asks mid after journal → CutsOff s names.sources asks before after journal
+    cut_so asks journal (inl t) = inl (record { no_fault = t.no_fault; trace = t.trace; out = t.out ∙ ap (grown before.out) (settled_first s journal) })
+    cut_so asks journal (inr (inl r)) = inr (inl (record { no_fault = r.no_fault; trace = r.trace; out = cut_at_row_first s journal before.out after.out r.out }))
+    cut_so asks journal (inr (inr d)) =
+        inr (inr (record { no_fault = d.no_fault; read = all_read asks journal d.read; trace = d.trace; out = cut_at_deadline_first s journal before.out after.out d.out }))
 
-    some_given : (asks : List Ask) (journal : List Entry) → (journal ≡ []) ⊎ CameHome names.sources asks shelf after.shelf → (journal ≡ []) ⊎ WereGiven names.sources asks before.shelf after.shelf
-    some_given asks journal (inl none) = inl none
-    some_given asks journal (inr home) = inr (were_given asks home)
+    front_or_all : (journal : List Entry) → HasFrontBehind s [] before.out after.out journal ⊎ (after.out ≡ grown before.out (verdicts_behind s [] journal))
+        → HasFront s before.out after.out journal ⊎ (after.out ≡ grown before.out (verdicts s journal))
+    front_or_all journal (inl front) = inl (has_front_first s journal before.out after.out front)
+    front_or_all journal (inr all) = inr (all ∙ ap (grown before.out) (verdicts_first s journal))
 
-    unfinished : UnfinishedRun names.in_turns s names.sources mid after ⊎ AreUntouched mid after → IsEarly (call words before after) ⊎ IsUnfinished (call words before after)
-    unfinished (inl u) = inr (record { run = ran_home u.asks u.run u.home; trace = u.trace; out = u.out })
-    unfinished (inr early) = inl (record { trace = early.trace; out = early.out })
+    unfinished : UnfinishedRun [] names.in_turns s names.sources mid after → IsUnfinished (call words before after)
+    unfinished u = record { run = ran_home u.asks u.run u.home; trace = u.trace; out = front_or_all u.run.journal u.out }
 
-    stands_at : (fault : RunFault) (asks : List Ask) (journal : List Entry) → IsRowFault s journal fault ⊎ IsAtDeadline shelf s names.sources asks journal
+    stands_at : (fault : RunFault) (asks : List Ask) (journal : List Entry) → IsRowFaultBehind s [] journal fault ⊎ IsAtDeadlineBehind [] shelf s names.sources asks journal
         → IsRowFault s journal fault ⊎ IsAtDeadline before.shelf s names.sources asks journal
-    stands_at fault asks journal (inl at) = inl at
+    stands_at fault asks journal (inl at) = inl (row_fault_first s journal fault at)
     stands_at fault asks journal (inr at) = inr (record { settled = at.settled; read = all_read asks journal at.read })
 
-    pub works_after : (outcome : CallEnd) → RunsSources names.in_turns outcome s names.sources mid after → Works outcome words before after
-    works_after (Line (Done a l n v)) r = record {
+    works_run : (outcome : CallEnd) → RunsSources [] names.in_turns outcome s names.sources mid after → Works outcome words before after
+    works_run (Line (Done a l n v)) r = record {
       all = record {
         run = ran_home r.ended.asks r.ended.run r.ended.home;
         given = given r.ended.all;
         rows = λ n name is. subst (λ t. Ends t plan n (rows_of n r.ended.run.journal) Whole) (told name) (r.rows n name is);
         no_fault = r.ended.no_fault;
-        line_is = r.line_is;
+        line_is = r.line_is ∙ done_first s r.ended.run.journal;
       };
       put = put_so r.ended.run.journal r.ended.put;
     }
-    works_after (Line (Malformed n row kind)) r = record {
+    works_run (Line (Malformed n row kind)) r = record {
       some = record {
         run = ran_home r.ended.asks r.ended.run r.ended.home;
         given = given r.ended.all;
@@ -161,7 +200,7 @@ module _ (words : List (List ℕ)) (names : Names) (plan : Plan) (before after :
       };
       put = put_so r.ended.run.journal r.ended.put;
     }
-    works_after (Line (Fault stream kind time)) r = record {
+    works_run (Line (Fault stream kind time)) r = record {
       up_to = record {
         run = ran_home r.asks r.run r.home;
         given = were_given r.asks r.home;
@@ -172,47 +211,76 @@ module _ (words : List (List ℕ)) (names : Names) (plan : Plan) (before after :
       };
       put = put_so r.run.journal r.put;
     }
-    works_after (Line (UnreadableSource n)) r = record {
+    works_run (Line (UnreadableSource n)) r = record {
       short = record {
-        run = ran r.asked.asks r.asked.appended r.run (some_given r.asked.asks r.run.journal r.home);
+        run = ran_home r.asks r.run r.home;
         at = r.at;
         least = r.least;
-        rose = rose_by r.rose;
-        unless_given = r.unless_given;
-        read = λ were. let all = r.read were in (all.0, all_read r.asked.asks r.run.journal all.1);
+        rose = rose_by (r.home.failed r.at r.least);
+        unless_given = λ place ask there none. let given = given_at r.asks place ask there r.home.given in absurd (cc);
+        read = λ were. (r.home.named, all_read r.asks r.run.journal r.read);
         no_fault = r.no_fault;
         line_is = r.line_is;
       };
       put = put_so r.run.journal r.put;
     }
-    works_after (Line Usage) r = absurd r
-    works_after (Line (Refused q)) r = absurd r
-    works_after (Line UnreadableSpecification) r = absurd r
-    works_after (Line (Analysed n w)) r = absurd r
-    works_after (Drilled line) r = absurd r
-    works_after (Report text) r = absurd r
-    works_after (Replayed end) r = absurd r
-    works_after CutFault r = record {
+    works_run (Line Usage) r = absurd r
+    works_run (Line (Refused q)) r = absurd r
+    works_run (Line UnreadableSpecification) r = absurd r
+    works_run (Line (Analysed n w)) r = absurd r
+    works_run (Drilled line) r = absurd r
+    works_run (Report text) r = absurd r
+    works_run (Replayed end) r = absurd r
+    works_run (Stated end) r = absurd r
+    works_run CutFault r = record {
       line = fault_line plan r.fault;
       up_to = record {
         run = ran_home r.asks r.run r.home;
         given = were_given r.asks r.home;
         fault = r.fault;
         is_fault = r.is_fault;
-        stands = inl r.stands;
+        stands = inl (row_fault_first s r.run.journal r.fault r.stands);
         line_is = refl;
       };
       trace = r.trace;
-      out = inr (broke_before before.out after.out (verdicts s r.run.journal) (end_text (fault_line plan r.fault)) r.out);
+      out = inr (broke_before before.out after.out (verdicts s r.run.journal) (end_text (fault_line plan r.fault)) (subst (PutBroke before.out after.out) (verdicts_first s r.run.journal) r.out));
     }
-    works_after Put r = record { run = ran_home r.asks r.run r.home; given = were_given r.asks r.home; cut = cut_so r.asks r.run.journal r.cut }
-    works_after Memory r = unfinished r.how
+    works_run Put r = record { run = ran_home r.asks r.run r.home; given = were_given r.asks r.home; cut = cut_so r.asks r.run.journal r.cut }
+    works_run Memory r = inr (unfinished r)
 
-asks_noted : (name : List ℕ) (before after : ShelfState) → after ≡ noted before name → asks_between before after ≡ given_ask name ∷ []
+    -- a source was not given: no row was taken
+    works_not_given : (outcome : CallEnd) → NotGivenRun outcome mid after → Works outcome words before after
+    works_not_given outcome r =
+        let some : first_failed_ask (asks_between shelf after.shelf) ≡ Some r.at = ap first_failed_ask (between shelf after.shelf r.asks r.appended) ∙ r.least in
+        let run = no_rows names.in_turns s names.sources shelf after.shelf r.at some in
+        subst (λ o. Works o words before after) (sym r.outcome_is) (record {
+          short = record {
+            run = ran r.asks r.appended run (inl refl);
+            at = r.at;
+            least = r.least;
+            rose = rose_by r.rose;
+            unless_given = λ place ask there none. refl;
+            read = λ were. let given = given_at r.asks r.at r.ask r.is_ask were in let none = r.not_given in absurd (cc);
+            no_fault = nothing_fails s;
+            line_is = refl;
+          };
+          put = record {
+            trace = r.early.trace ∙ sym (grown_nil before.trace);
+            out = r.early.out ∙ (sym (grown_nil before.out) ∙ ap (grown before.out) (sym (nothing_final s)));
+          };
+        })
+
+    -- a run that begins anew is one behind no entry
+    pub works_after : (outcome : CallEnd) (kept : Keeping) → setting_in kept ≡ s → IsBehind [] [] kept → TakesSources names.in_turns outcome kept names.sources mid after → Works outcome words before after
+    works_after outcome kept set stood (inl r) = works_not_given outcome r
+    works_after outcome kept set stood (inr (inl r)) = subst (λ o. Works o words before after) (sym r.outcome_is) (inl (record { trace = r.early.trace; out = r.early.out }))
+    works_after outcome kept set stood (inr (inr r)) = works_run outcome (subst (λ (t : Setting). RunsSources [] names.in_turns outcome t names.sources mid after) set (r.behind [] stood))
+
+pub asks_noted : (name : List ℕ) (before after : ShelfState) → after ≡ noted before name → asks_between before after ≡ given_ask name ∷ []
 asks_noted name before after is = between before after (given_ask name ∷ []) (ap (λ s. s.asks) is)
 
 -- the first ask is the first faulty one
-first_is_failed_ask : (name : List ℕ) (before after : ShelfState) → Marred name before after → first_failed_ask (asks_between before after) ≡ Some 0
+pub first_is_failed_ask : (name : List ℕ) (before after : ShelfState) → Marred name before after → first_failed_ask (asks_between before after) ≡ Some 0
 first_is_failed_ask name before after m =
     ap first_failed_ask (between before after (m.ask ∷ []) m.asks) ∙ ap (λ (b : Bool). if b then Some 0 else option_map (λ n. n + 1) None) m.has_failed
 
@@ -252,6 +320,7 @@ works_drilled words here d (Line line) is drills = absurd drills
 works_drilled words here d (Drilled line) is drills = record { of = record { drill = d; is_command = is; shelf = refl }; drills = drills; early = record { trace = refl; out = refl } }
 works_drilled words here d (Report text) is drills = absurd drills
 works_drilled words here d (Replayed end) is drills = absurd drills
+works_drilled words here d (Stated end) is drills = absurd drills
 works_drilled words here d CutFault is drills = absurd drills
 works_drilled words here d Put is drills = absurd drills
 works_drilled words here d Memory is drills = inl (record { trace = refl; out = refl })

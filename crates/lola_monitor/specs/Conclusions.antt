@@ -9,8 +9,11 @@ use Rattle.lola_replay.specs.declared.end.ReplayEnd.{ReplayEnd}
 use Rattle.lola_replay.specs.declared.end.ReplayEnd.TheVariants.{Found, UnreadableTrace, UnreadableVerdicts}
 use Rattle.lola_replay.specs.declared.finding.Finding.{Finding}
 use Rattle.lola_replay.specs.declared.finding.Finding.TheVariants.{Same, TraceDiffers, VerdictsDiffer}
+use Rattle.lola_save.specs.StateEnds.{state_end_text}
+use Rattle.lola_save.specs.declared.end.StateEnd.{StateEnd}
+use Rattle.lola_save.specs.declared.end.StateEnd.TheVariants as state_end
 use Rattle.lola_monitor.specs.declared.outcome.CallEnd.{CallEnd}
-use Rattle.lola_monitor.specs.declared.outcome.CallEnd.TheVariants.{Line, Drilled, Report, Replayed, CutFault, Put, Memory}
+use Rattle.lola_monitor.specs.declared.outcome.CallEnd.TheVariants.{Line, Drilled, Report, Replayed, Stated, CutFault, Put, Memory}
 
 -- the status that goes with a last line
 abbrev pub status_with : EndLine → ℕ
@@ -56,6 +59,13 @@ status_replayed_without (Found finding) = status_found_without finding
 status_replayed_without UnreadableTrace = 6
 status_replayed_without UnreadableVerdicts = 6
 
+-- the status that goes with the last line of a state, whether or not it was put whole
+abbrev pub status_stated : StateEnd → ℕ
+status_stated state_end.Unreadable = 6
+status_stated (state_end.Damaged line) = 9
+status_stated state_end.OtherSpecification = 9
+status_stated state_end.TooManySteps = 9
+
 -- the last line or the report was put, or a part of it, or there was no memory
 abbrev pub Concluded : ℕ → CallEnd → SinkState → SinkState → Type 0
 Concluded status (Line line) old new =
@@ -65,6 +75,8 @@ Concluded status (Drilled line) old new =
 Concluded status (Report text) old new = ((status ≡ 0) × (new ≡ grown old text)) ⊎ (((status ≡ 7) × PutBroke old new text) ⊎ ((status ≡ 8) × (new ≡ old)))
 Concluded status (Replayed end) old new =
     ((status ≡ status_replayed end) × (new ≡ grown old (replay_end_text end))) ⊎ (((status ≡ status_replayed_without end) × PutBroke old new (replay_end_text end)) ⊎ ((status ≡ 8) × (new ≡ old)))
+Concluded status (Stated end) old new =
+    ((status ≡ status_stated end) × (new ≡ grown old (state_end_text end))) ⊎ (((status ≡ status_stated end) × PutBroke old new (state_end_text end)) ⊎ ((status ≡ 8) × (new ≡ old)))
 Concluded status CutFault old new = (status ≡ 5) × (new ≡ old)
 Concluded status Put old new = (status ≡ 7) × (new ≡ old)
 Concluded status Memory old new = (status ≡ 8) × (new ≡ old)

@@ -20,7 +20,7 @@ use Rattle.lola_feed.specs.Drills.{drill_bytes, drill_text}
 use Rattle.lola_monitor_run.specs.Verdicts.{AreOfSources, IsRowFault, Setting, fault_in, most_rows, settled_fault_in}
 use Rattle.lola_monitor_run.specs.Rounds.{AreFirst}
 use Rattle.lola_monitor.specs.declared.outcome.CallEnd.{CallEnd}
-use Rattle.lola_monitor.specs.declared.outcome.CallEnd.TheVariants.{Line, Drilled, Report, Replayed, CutFault, Put, Memory}
+use Rattle.lola_monitor.specs.declared.outcome.CallEnd.TheVariants.{Line, Drilled, Report, Replayed, Stated, CutFault, Put, Memory}
 use Rattle.lola_monitor.specs.Command.{drill_of}
 use Rattle.lola_monitor.specs.Monitor.{Call, HasItsModels, IsUntraced, MalformedSource, Wrote, done_line, fault_line, first_malformed, source_rows}
 
@@ -143,6 +143,7 @@ DrillsBy (Line line) d = ⊥
 DrillsBy (Drilled line) d = DrillsTo line d
 DrillsBy (Report text) d = ⊥
 DrillsBy (Replayed end) d = ⊥
+DrillsBy (Stated end) d = ⊥
 DrillsBy CutFault d = ⊥
 DrillsBy Put d = ⊥
 DrillsBy Memory d = Unit {0}

@@ -1,3 +1,4 @@
+pub mod Telling
 pub mod Command
 pub mod Monitor
 pub mod Drilling
@@ -6,3 +7,10 @@ pub mod Statuses
 pub mod Outcomes
 pub mod ReplayOutcomes
 pub mod Conclusions
+pub mod Pasts
+pub mod Resumed
+pub mod Snapshots
+pub mod Stating
+pub mod SnapshotOutcomes
+pub mod ResumedOutcomes
+pub mod AnyOutcomes

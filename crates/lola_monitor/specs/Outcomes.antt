@@ -18,8 +18,9 @@ use Rattle.lola_report_lines.specs.declared.end.EndLine.TheVariants.{Done, Usage
 use Rattle.lola_feed.specs.Feeding.{Working}
 use Rattle.lola_feed.specs.declared.worker.SourceEnd as worker
 use Rattle.lola_feed.specs.declared.worker.SourceEnd.TheVariants as finish
-use Rattle.lola_monitor_run.specs.Verdicts.{AreOfSources, AreTraceable, HasFront, IsRowFault, Setting, fault_in, verdicts}
-use Rattle.lola_monitor_run.specs.Running.{Keeping}
+use Rattle.lola_monitor_run.specs.Verdicts.{AreOfSources, AreTraceable, Setting, fault_in, settled_fault_in, verdicts}
+use Rattle.lola_monitor_run.specs.Behind.{HasFrontBehind, IsBehind, IsRowFaultBehind, verdicts_behind}
+use Rattle.lola_monitor_run.specs.Running.{Keeping, setting_in}
 use Rattle.lola_monitor_run.specs.declared.stop.Stop.{Stop}
 use Rattle.lola_monitor_run.specs.declared.stop.Stop.TheVariants as stop
 use Rattle.lola_feed.specs.declared.sources.FetchStop.{FetchStop}
@@ -30,11 +31,13 @@ use Rattle.lola_replay.specs.declared.end.ReplayEnd.{ReplayEnd}
 use Rattle.lola_replay.specs.declared.end.ReplayEnd.TheVariants as replayed
 use Rattle.lola_replay.specs.declared.finding.Finding.{Finding}
 use Rattle.lola_monitor.specs.Replaying.{Replay, Unread}
-use Rattle.lola_monitor.specs.Monitor.{AllBegin, AllEnd, AllRead, AllWell, Analysis, AreGiven, CutShort, CutsOff, Ends, GoInTurns, HasItsModels, IsAtDeadline, IsCutOff, IsEarly, IsFault, IsFrontOf, IsRefusedBy, IsUnfinished, MalformedSource, Outside, Plans, SomeMalformed, UpToFault, analysis_text, asks_between, call, done_line, fault_line, first_failed_ask, first_malformed, is_failed_ask, setting_of}
+use Rattle.lola_monitor.specs.Monitor.{AllBegin, AllEnd, AllRead, AllWell, Analysis, AreGiven, CutShort, Ends, GoInTurns, HasItsModels, IsCutOff, IsEarly, IsFault, IsFrontOf, IsRefusedBy, IsUnfinished, MalformedSource, Outside, Plans, SomeMalformed, UpToFault, analysis_text, asks_between, call, fault_line, first_failed_ask, first_malformed, is_failed_ask, setting_of}
+use Rattle.lola_monitor.specs.Pasts.{done_line_behind}
+use Rattle.lola_monitor.specs.Resumed.{CutsOffBehind}
 use Rattle.lola_monitor.specs.declared.ending.SourcesEnd.{SourcesEnd}
 use Rattle.lola_monitor.specs.declared.ending.SourcesEnd.TheVariants as sources_end
 use Rattle.lola_monitor.specs.declared.outcome.CallEnd.{CallEnd}
-use Rattle.lola_monitor.specs.declared.outcome.CallEnd.TheVariants.{Line, Drilled, Report, Replayed, CutFault, Put, Memory}
+use Rattle.lola_monitor.specs.declared.outcome.CallEnd.TheVariants.{Line, Drilled, Report, Replayed, Stated, CutFault, Put, Memory}
 use Rattle.lola_monitor.specs.declared.outcome.Unplanned.{Unplanned}
 use Rattle.lola_monitor.specs.declared.outcome.Unplanned.TheVariants as unplanned
 
@@ -90,10 +93,10 @@ pub record CameHome (names : List (List ℕ)) (asks : List Ask) (before after : 
   pub failed : (at : ℕ) → first_failed_ask asks ≡ Some at → Rose before.count after.count
   pub out : after.out ≡ before.out
 
--- the rows that were taken of sources
-pub record SourcesRun (in_turns : Bool) (s : Setting) (names : List (List ℕ)) (before after : ShelfState) : Type 0 where
+-- the rows that were taken of sources, behind a journal that others had taken
+pub record SourcesRun (front : List Entry) (in_turns : Bool) (s : Setting) (names : List (List ℕ)) (before after : ShelfState) : Type 0 where
   pub journal : List Entry
-  pub legal : IsLegal s.start journal
+  pub legal : IsLegal s.start (front ++ journal)
   pub sources : AreOfSources (length names) journal
   pub traceable : AreTraceable s.plan journal
   pub rows : AllBegin before s.plan names journal
@@ -104,107 +107,161 @@ pub record ArePut (s : Setting) (before after : Outside) (journal : List Entry) 
   pub trace : after.trace ≡ grown before.trace (trace_text journal)
   pub out : after.out ≡ grown before.out (verdicts s journal)
 
+-- the same, behind a journal that others had taken
+pub record ArePutBehind (front : List Entry) (s : Setting) (before after : Outside) (journal : List Entry) : Type 0 where
+  pub trace : after.trace ≡ grown before.trace (trace_text journal)
+  pub out : after.out ≡ grown before.out (verdicts_behind s front journal)
+
 -- all sources were run to their ends
-pub record EndedRun (in_turns : Bool) (s : Setting) (names : List (List ℕ)) (before after : Outside) : Type 0 where
-  pub run : SourcesRun in_turns s names before.shelf after.shelf
-  pub put : ArePut s before after run.journal
+pub record EndedRun (front : List Entry) (in_turns : Bool) (s : Setting) (names : List (List ℕ)) (before after : Outside) : Type 0 where
+  pub run : SourcesRun front in_turns s names before.shelf after.shelf
+  pub put : ArePutBehind front s before after run.journal
   pub asks : List Ask
   pub home : CameHome names asks before.shelf after.shelf
   pub all : AllHome names before.shelf after.shelf
-  pub no_fault : fault_in s run.journal ≡ None
+  pub no_fault : fault_in s (front ++ run.journal) ≡ None
 
 -- each of them ends well
-pub record DoneRun (in_turns : Bool) (line : EndLine) (s : Setting) (names : List (List ℕ)) (before after : Outside) : Type 0 where
-  pub ended : EndedRun in_turns s names before after
+pub record DoneRun (front : List Entry) (in_turns : Bool) (line : EndLine) (s : Setting) (names : List (List ℕ)) (before after : Outside) : Type 0 where
+  pub ended : EndedRun front in_turns s names before after
   pub rows : (n : ℕ) (name : List ℕ) → slice_get names n ≡ Some name → Ends (before.shelf.told name) s.plan n (rows_of n ended.run.journal) Whole
-  pub line_is : line ≡ done_line s ended.run.journal
+  pub line_is : line ≡ done_line_behind s front ended.run.journal
 
 -- the least that is malformed is named
-pub record MalformedRun (in_turns : Bool) (line : EndLine) (s : Setting) (names : List (List ℕ)) (before after : Outside) : Type 0 where
-  pub ended : EndedRun in_turns s names before after
+pub record MalformedRun (front : List Entry) (in_turns : Bool) (line : EndLine) (s : Setting) (names : List (List ℕ)) (before after : Outside) : Type 0 where
+  pub ended : EndedRun front in_turns s names before after
   pub ends : List SourceEnd
   pub rows : AllEnd before.shelf s.plan names ended.run.journal ends
   pub at : MalformedSource
   pub least : first_malformed ends ≡ Some at
   pub line_is : line ≡ Malformed at.source at.row at.kind
 
+-- no settled step has a fault: it stands at the deadline of the last stamp, once each source was read to its end or has failed
+pub record IsAtDeadlineBehind (front : List Entry) (shelf : ShelfState) (s : Setting) (sources : List (List ℕ)) (asks : List Ask) (journal : List Entry) : Type 0 where
+  pub settled : settled_fault_in s (front ++ journal) ≡ None
+  pub read : AllRead shelf s.plan sources asks journal
+
 -- sources were run to the first fault
-pub record FaultRun (in_turns : Bool) (line : EndLine) (s : Setting) (names : List (List ℕ)) (before after : Outside) : Type 0 where
-  pub run : SourcesRun in_turns s names before.shelf after.shelf
-  pub put : ArePut s before after run.journal
+pub record FaultRun (front : List Entry) (in_turns : Bool) (line : EndLine) (s : Setting) (names : List (List ℕ)) (before after : Outside) : Type 0 where
+  pub run : SourcesRun front in_turns s names before.shelf after.shelf
+  pub put : ArePutBehind front s before after run.journal
   pub asks : List Ask
   pub home : CameHome names asks before.shelf after.shelf
   pub fault : RunFault
-  pub is_fault : fault_in s run.journal ≡ Some fault
-  pub stands : IsRowFault s run.journal fault ⊎ IsAtDeadline before.shelf s names asks run.journal
+  pub is_fault : fault_in s (front ++ run.journal) ≡ Some fault
+  pub stands : IsRowFaultBehind s front run.journal fault ⊎ IsAtDeadlineBehind front before.shelf s names asks run.journal
   pub line_is : line ≡ fault_line s.plan fault
 
 -- sources were run to the first fault of a row, before whose line a put failed: a proper part of the verdicts was put
-pub record CutFaultRun (in_turns : Bool) (s : Setting) (names : List (List ℕ)) (before after : Outside) : Type 0 where
-  pub run : SourcesRun in_turns s names before.shelf after.shelf
+pub record CutFaultRun (front : List Entry) (in_turns : Bool) (s : Setting) (names : List (List ℕ)) (before after : Outside) : Type 0 where
+  pub run : SourcesRun front in_turns s names before.shelf after.shelf
   pub asks : List Ask
   pub home : CameHome names asks before.shelf after.shelf
   pub fault : RunFault
-  pub is_fault : fault_in s run.journal ≡ Some fault
-  pub stands : IsRowFault s run.journal fault
+  pub is_fault : fault_in s (front ++ run.journal) ≡ Some fault
+  pub stands : IsRowFaultBehind s front run.journal fault
   pub trace : after.trace ≡ grown before.trace (trace_text run.journal)
-  pub out : PutBroke before.out after.out (verdicts s run.journal)
+  pub out : PutBroke before.out after.out (verdicts_behind s front run.journal)
 
--- a source was not given, and nothing was run; or sources were run, and some could not be read to their ends
-pub record CutRun (in_turns : Bool) (line : EndLine) (s : Setting) (names : List (List ℕ)) (before after : Outside) : Type 0 where
-  pub run : SourcesRun in_turns s names before.shelf after.shelf
-  pub put : ArePut s before after run.journal
-  pub no_fault : fault_in s run.journal ≡ None
-  pub asked : Grew names before.shelf after.shelf
-  pub home : (run.journal ≡ []) ⊎ CameHome names asked.asks before.shelf after.shelf
+-- sources were run, and some could not be read to their ends
+pub record CutRun (front : List Entry) (in_turns : Bool) (line : EndLine) (s : Setting) (names : List (List ℕ)) (before after : Outside) : Type 0 where
+  pub run : SourcesRun front in_turns s names before.shelf after.shelf
+  pub put : ArePutBehind front s before after run.journal
+  pub no_fault : fault_in s (front ++ run.journal) ≡ None
+  pub asks : List Ask
+  pub home : CameHome names asks before.shelf after.shelf
   pub at : ℕ
-  pub least : first_failed_ask asked.asks ≡ Some at
-  pub rose : Rose before.shelf.count after.shelf.count
-  pub unless_given : (n : ℕ) (ask : Ask) → slice_get asked.asks n ≡ Some ask → ask.given ≡ false → run.journal ≡ []
-  pub read : AreGiven asked.asks → (map (λ ask. ask.name) asked.asks ≡ names) × AllRead before.shelf s.plan names asked.asks run.journal
+  pub least : first_failed_ask asks ≡ Some at
+  pub read : AllRead before.shelf s.plan names asks run.journal
   pub line_is : line ≡ UnreadableSource at
 
 -- sources were run until a put failed
-pub record BrokenRun (in_turns : Bool) (s : Setting) (names : List (List ℕ)) (before after : Outside) : Type 0 where
-  pub run : SourcesRun in_turns s names before.shelf after.shelf
+pub record BrokenRun (front : List Entry) (in_turns : Bool) (s : Setting) (names : List (List ℕ)) (before after : Outside) : Type 0 where
+  pub run : SourcesRun front in_turns s names before.shelf after.shelf
   pub asks : List Ask
   pub home : CameHome names asks before.shelf after.shelf
-  pub cut : CutsOff s names asks before after run.journal
+  pub cut : CutsOffBehind s front names asks before after run.journal
 
 -- sources were run until there was no memory
-pub record UnfinishedRun (in_turns : Bool) (s : Setting) (names : List (List ℕ)) (before after : Outside) : Type 0 where
-  pub run : SourcesRun in_turns s names before.shelf after.shelf
+pub record UnfinishedRun (front : List Entry) (in_turns : Bool) (s : Setting) (names : List (List ℕ)) (before after : Outside) : Type 0 where
+  pub run : SourcesRun front in_turns s names before.shelf after.shelf
   pub asks : List Ask
   pub home : CameHome names asks before.shelf after.shelf
   pub trace : after.trace ≡ grown before.trace (trace_text run.journal)
-  pub out : HasFront s before.out after.out run.journal ⊎ (after.out ≡ grown before.out (verdicts s run.journal))
+  pub out : HasFrontBehind s front before.out after.out run.journal ⊎ (after.out ≡ grown before.out (verdicts_behind s front run.journal))
+
+-- a run of sources behind a journal, in turns or not
+abbrev pub RunsSources : List Entry → Bool → CallEnd → Setting → List (List ℕ) → Outside → Outside → Type 0
+RunsSources front in_turns (Line (Done a l n v)) s names before after = DoneRun front in_turns (Done a l n v) s names before after
+RunsSources front in_turns (Line (Malformed n row kind)) s names before after = MalformedRun front in_turns (Malformed n row kind) s names before after
+RunsSources front in_turns (Line (Fault stream kind time)) s names before after = FaultRun front in_turns (Fault stream kind time) s names before after
+RunsSources front in_turns (Line (UnreadableSource n)) s names before after = CutRun front in_turns (UnreadableSource n) s names before after
+RunsSources front in_turns (Line Usage) s names before after = ⊥
+RunsSources front in_turns (Line (Refused r)) s names before after = ⊥
+RunsSources front in_turns (Line UnreadableSpecification) s names before after = ⊥
+RunsSources front in_turns (Line (Analysed n w)) s names before after = ⊥
+RunsSources front in_turns (Drilled line) s names before after = ⊥
+RunsSources front in_turns (Report text) s names before after = ⊥
+RunsSources front in_turns (Replayed end) s names before after = ⊥
+RunsSources front in_turns (Stated end) s names before after = ⊥
+RunsSources front in_turns CutFault s names before after = CutFaultRun front in_turns s names before after
+RunsSources front in_turns Put s names before after = BrokenRun front in_turns s names before after
+RunsSources front in_turns Memory s names before after = UnfinishedRun front in_turns s names before after
+
+-- behind whatever journal others had taken
+abbrev pub RunsBehindAny : Bool → CallEnd → Keeping → List (List ℕ) → Outside → Outside → Type 0
+RunsBehindAny in_turns outcome kept names before after = (front : List Entry) → IsBehind front front kept → RunsSources front in_turns outcome (setting_in kept) names before after
+
+-- how a run of sources can end
+abbrev pub EndsSources : CallEnd → Type 0
+EndsSources (Line (Done a l n v)) = Unit {0}
+EndsSources (Line (Malformed n row kind)) = Unit {0}
+EndsSources (Line (Fault stream kind time)) = Unit {0}
+EndsSources (Line (UnreadableSource n)) = Unit {0}
+EndsSources (Line Usage) = ⊥
+EndsSources (Line (Refused r)) = ⊥
+EndsSources (Line UnreadableSpecification) = ⊥
+EndsSources (Line (Analysed n w)) = ⊥
+EndsSources (Drilled line) = ⊥
+EndsSources (Report text) = ⊥
+EndsSources (Replayed end) = ⊥
+EndsSources (Stated end) = ⊥
+EndsSources CutFault = Unit {0}
+EndsSources Put = Unit {0}
+EndsSources Memory = Unit {0}
+
+-- sources were read, by a run that may go on from a state which no journal has
+pub record RanSources (in_turns : Bool) (outcome : CallEnd) (kept : Keeping) (names : List (List ℕ)) (before after : Outside) : Type 0 where
+  pub ends : EndsSources outcome
+  pub behind : RunsBehindAny in_turns outcome kept names before after
 
 -- nothing was put
 pub record AreUntouched (before after : Outside) : Type 0 where
   pub trace : after.trace ≡ before.trace
   pub out : after.out ≡ before.out
 
--- sources were run, or asked for, until there was no memory
-pub record StoppedRun (in_turns : Bool) (s : Setting) (names : List (List ℕ)) (before after : Outside) : Type 0 where
-  pub shelf : Grew names before.shelf after.shelf
-  pub how : UnfinishedRun in_turns s names before after ⊎ AreUntouched before after
+-- a source was not given: no row was taken, no deadline was run, and nothing was put
+pub record NotGivenRun (outcome : CallEnd) (before after : Outside) : Type 0 where
+  pub at : ℕ
+  pub outcome_is : outcome ≡ Line (UnreadableSource at)
+  pub asks : List Ask
+  pub appended : after.shelf.asks ≡ before.shelf.asks ++ asks
+  pub least : first_failed_ask asks ≡ Some at
+  pub ask : Ask
+  pub is_ask : slice_get asks at ≡ Some ask
+  pub not_given : ask.given ≡ false
+  pub rose : Rose before.shelf.count after.shelf.count
+  pub early : AreUntouched before after
 
--- a run of sources, in turns or not
-abbrev pub RunsSources : Bool → CallEnd → Setting → List (List ℕ) → Outside → Outside → Type 0
-RunsSources in_turns (Line (Done a l n v)) s names before after = DoneRun in_turns (Done a l n v) s names before after
-RunsSources in_turns (Line (Malformed n row kind)) s names before after = MalformedRun in_turns (Malformed n row kind) s names before after
-RunsSources in_turns (Line (Fault stream kind time)) s names before after = FaultRun in_turns (Fault stream kind time) s names before after
-RunsSources in_turns (Line (UnreadableSource n)) s names before after = CutRun in_turns (UnreadableSource n) s names before after
-RunsSources in_turns (Line Usage) s names before after = ⊥
-RunsSources in_turns (Line (Refused r)) s names before after = ⊥
-RunsSources in_turns (Line UnreadableSpecification) s names before after = ⊥
-RunsSources in_turns (Line (Analysed n w)) s names before after = ⊥
-RunsSources in_turns (Drilled line) s names before after = ⊥
-RunsSources in_turns (Report text) s names before after = ⊥
-RunsSources in_turns (Replayed end) s names before after = ⊥
-RunsSources in_turns CutFault s names before after = CutFaultRun in_turns s names before after
-RunsSources in_turns Put s names before after = BrokenRun in_turns s names before after
-RunsSources in_turns Memory s names before after = StoppedRun in_turns s names before after
+-- there was no memory before any source was read
+pub record NotBegunRun (outcome : CallEnd) (before after : Outside) : Type 0 where
+  pub outcome_is : outcome ≡ Memory
+  pub early : AreUntouched before after
+
+-- a run of sources that were to be fetched: none was read, or they were
+abbrev pub TakesSources : Bool → CallEnd → Keeping → List (List ℕ) → Outside → Outside → Type 0
+TakesSources in_turns outcome kept names before after =
+    NotGivenRun outcome before after ⊎ (NotBegunRun outcome before after ⊎ RanSources in_turns outcome kept names before after)
 
 -- a specification was read, and its plan made
 pub record ReadPlan (plan : Plan) (name : List ℕ) (before after : ShelfState) : Type 0 where
@@ -382,6 +439,7 @@ Works (Report text) words before after = StoodAnalysed text words before after
 Works (Replayed (replayed.Found finding)) words before after = StoodFound finding words before after
 Works (Replayed replayed.UnreadableTrace) words before after = StoodUnread replayed.UnreadableTrace words before after
 Works (Replayed replayed.UnreadableVerdicts) words before after = StoodUnread replayed.UnreadableVerdicts words before after
+Works (Stated end) words before after = ⊥
 Works CutFault words before after = IsFault (call words before after)
 Works Put words before after = IsCutOff (call words before after)
 Works Memory words before after = IsEarly (call words before after) ⊎ IsUnfinished (call words before after)

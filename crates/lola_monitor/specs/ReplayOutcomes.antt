@@ -9,7 +9,7 @@ use Rattle.lola_monitor.specs.Command.{ReplayNames}
 use Rattle.lola_monitor.specs.Outcomes.{Grew, Marred, noted}
 use Rattle.lola_monitor.specs.Replaying.{IsText, told_by}
 use Rattle.lola_monitor.specs.declared.outcome.CallEnd.{CallEnd}
-use Rattle.lola_monitor.specs.declared.outcome.CallEnd.TheVariants.{Line, Drilled, Report, Replayed, CutFault, Put, Memory}
+use Rattle.lola_monitor.specs.declared.outcome.CallEnd.TheVariants.{Line, Drilled, Report, Replayed, Stated, CutFault, Put, Memory}
 
 -- both were read whole, one after the other, and this was found of them
 pub record FoundTexts (finding : Finding) (plan : Plan) (names : ReplayNames) (before after : ShelfState) : Type 0 where
@@ -28,6 +28,7 @@ Judges (Report text) told = ⊥
 Judges (Replayed (Found finding)) told = Finds told finding
 Judges (Replayed UnreadableTrace) told = ⊥
 Judges (Replayed UnreadableVerdicts) told = ⊥
+Judges (Stated end) told = ⊥
 Judges CutFault told = ⊥
 Judges Put told = ⊥
 Judges Memory told = Unit {0}
@@ -40,6 +41,7 @@ ReplaysTexts (Report text) plan names before after = ⊥
 ReplaysTexts (Replayed (Found finding)) plan names before after = FoundTexts finding plan names before after
 ReplaysTexts (Replayed UnreadableTrace) plan names before after = Marred names.trace before after
 ReplaysTexts (Replayed UnreadableVerdicts) plan names before after = Marred names.verdicts (noted before names.trace) after
+ReplaysTexts (Stated end) plan names before after = ⊥
 ReplaysTexts CutFault plan names before after = ⊥
 ReplaysTexts Put plan names before after = ⊥
 ReplaysTexts Memory plan names before after = Grew (names.trace ∷ names.verdicts ∷ []) before after

@@ -8,6 +8,7 @@ ghost use Rattle.lola_monitor.specs.Drilling.{AreDrillWorkers, DrillsBy, IsDrill
 ghost use Rattle.lola_monitor.specs.Monitor.{HasItsModels};
 
 use crate::ending::{end_of, outcome_after};
+use crate::nowhere::Nowhere;
 use crate::outcome::{CallEnd, Unplanned};
 use crate::planning::plan_of;
 use lola_feed::worker::SourceWorker;
@@ -17,27 +18,13 @@ use lola_model::plan::Plan;
 use lola_monitor_command::command::DrillCommand;
 use lola_monitor_run::rows::{MOST_ROWS, run_in_turns};
 use lola_monitor_run::run::Run;
-use lola_port::{Gate, PutEnd, Sink};
+use lola_port::Gate;
 use lola_report_lines::end::EndLine;
 use lola_rows::RowReader;
 use lola_value::text::Memory;
 use std::alloc::Global;
 use std::hash::RandomState;
 use std::thread::Threads;
-
-/// Where the lines of a drill go: nowhere. No put fails.
-#[derive(Drop)]
-struct Nowhere;
-
-impl Sink for Nowhere {
-    ghost use Rattle.std.specs.Prelude.{None};
-
-    ghost state = { λ _. record { written = None; count = 0 } };
-
-    fn put(&mut self, _bytes: &[u8]) -> Result<(), PutEnd> {
-        Ok(())
-    }
-}
 
 // The worker of source 0 or 1 of a drill.
 fn drill_worker(

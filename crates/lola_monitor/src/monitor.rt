@@ -1,11 +1,14 @@
 //! The top call.
-ghost use Rattle.std.specs.Prelude.{◌≡◌, Some, map, string_bytes};
+ghost use Rattle.std.specs.Prelude.{◌≡◌, None, Some, map, string_bytes};
 ghost use Rattle.lola_port.specs.States.{SinkState};
 ghost use Rattle.lola_monitor_command.specs.Command.{command_of};
-ghost use Rattle.lola_monitor.specs.Command.{names_asked};
+ghost use Rattle.lola_monitor.specs.Command.{IsWithoutState, Resumption, SnapshotNames, names_asked, resumption_of, snapshot_of};
 ghost use Rattle.lola_monitor.specs.Monitor.{Asked, call, outside};
 ghost use Rattle.lola_monitor.specs.Statuses.{Decided, Ended};
 ghost use Rattle.lola_monitor.specs.Outcomes.{Works};
+ghost use Rattle.lola_monitor.specs.AnyOutcomes.{WorksAny};
+ghost use Rattle.lola_monitor.specs.Resumed.{DecidedResumed, EndedResumed};
+ghost use Rattle.lola_monitor.specs.Snapshots.{DecidedSnapshot, EndedSnapshot};
 
 use crate::analysing::analysis;
 use crate::drilling::drill;
@@ -13,8 +16,11 @@ use crate::outcome::CallEnd;
 use crate::planning::{read_plan, without_plan};
 use crate::putting::conclude;
 use crate::replaying::replay_texts;
+use crate::resuming::resume;
+use crate::saving::snapshot;
 use crate::sources::run_sources;
 use lola_monitor_command::command::{Command, ReplayCommand, RunCommand, read_command};
+use lola_monitor_run::run::Run;
 use lola_monitor_run::run_law::puts_add_up;
 use lola_port::{Gate, Shelf, Sink};
 use lola_replay::law::one_finding;
@@ -25,7 +31,7 @@ use std::hash::RandomState;
 use std::sync::Wait;
 use std::thread::Threads;
 
-// All but the last line of a run.
+// All but the last line of a run that begins anew.
 fn run<R: Threads + Wait + Sync, F: Shelf, K: Sink, T: Sink, G: Gate + Sync>(
     rt: &R,
     alloc: Global,
@@ -39,6 +45,7 @@ fn run<R: Threads + Wait + Sync, F: Shelf, K: Sink, T: Sink, G: Gate + Sync>(
 ) -> CallEnd
     requires out { (F.state shelf.old).out ≡ 0 }
     requires is_run { command_of (map string_bytes words.now) ≡ Some (Command.Run command.now) }
+    requires is_anew { command.now.state ≡ None }
     ensures works { Works result (map string_bytes words.now) (outside (F.state shelf.old) (K.state out.old) (T.state trace.old))
         (outside (F.state shelf.new) (K.state out.new) (T.state trace.new)) }
     ensures asked { Asked (names_asked (map string_bytes words.now)) (F.state shelf.old) (F.state shelf.new) }
@@ -47,9 +54,39 @@ fn run<R: Threads + Wait + Sync, F: Shelf, K: Sink, T: Sink, G: Gate + Sync>(
         Ok(plan) => plan,
         Err(end) => return without_plan(end),
     };
+    let start = command.start;
+    let Ok(run) = Run::create(alloc, hasher, plan, start, command.show, command.workers) else {
+        return CallEnd::Memory;
+    };
     run_sources(
-        rt, alloc, hasher, plan, command, words, shelf, out, trace, gate,
+        rt, alloc, run, start, words, command, shelf, out, trace, gate,
     )
+}
+
+// All but the last line of a run that begins anew or goes on from a state.
+fn run_or_resume<R: Threads + Wait + Sync, F: Shelf, K: Sink, T: Sink, G: Gate + Sync>(
+    rt: &R,
+    alloc: Global,
+    hasher: RandomState,
+    words: &[String],
+    command: &RunCommand,
+    shelf: &mut F,
+    out: &mut K,
+    trace: &mut T,
+    gate: &G,
+) -> CallEnd
+    requires out { (F.state shelf.old).out ≡ 0 }
+    requires is_run { command_of (map string_bytes words.now) ≡ Some (Command.Run command.now) }
+    ensures works { WorksAny result (map string_bytes words.now) (outside (F.state shelf.old) (K.state out.old) (T.state trace.old))
+        (outside (F.state shelf.new) (K.state out.new) (T.state trace.new)) }
+    ensures asked { Asked (names_asked (map string_bytes words.now)) (F.state shelf.old) (F.state shelf.new) }
+{
+    match command.state {
+        Some(place) => resume(
+            rt, alloc, hasher, words, command, place, shelf, out, trace, gate,
+        ),
+        None => run(rt, alloc, hasher, words, command, shelf, out, trace, gate),
+    }
 }
 
 // All but the report of an analysis, which puts nothing to the trace.
@@ -105,13 +142,16 @@ fn work<R: Threads + Wait + Sync, F: Shelf, K: Sink, T: Sink, G: Gate + Sync>(
     gate: &G,
 ) -> CallEnd
     requires { (F.state shelf.old).out ≡ 0 }
-    ensures works { Works result (map string_bytes words.now) (outside (F.state shelf.old) (K.state out.old) (T.state trace.old))
+    ensures works { WorksAny result (map string_bytes words.now) (outside (F.state shelf.old) (K.state out.old) (T.state trace.old))
         (outside (F.state shelf.new) (K.state out.new) (T.state trace.new)) }
     ensures asked { Asked (names_asked (map string_bytes words.now)) (F.state shelf.old) (F.state shelf.new) }
 {
     match read_command(alloc, words) {
         Ok(Some(Command::Run(command))) => {
-            run(rt, alloc, hasher, words, &command, shelf, out, trace, gate)
+            run_or_resume(rt, alloc, hasher, words, &command, shelf, out, trace, gate)
+        }
+        Ok(Some(Command::Snapshot(command))) => {
+            snapshot(rt, alloc, hasher, words, &command, shelf, gate)
         }
         Ok(Some(Command::Analyse(specification))) => analyse(alloc, words, specification, shelf),
         Ok(Some(Command::Drill(command))) => drill(rt, alloc, hasher, &command, gate),
@@ -137,6 +177,11 @@ fn work<R: Threads + Wait + Sync, F: Shelf, K: Sink, T: Sink, G: Gate + Sync>(
 /// `out` and nothing to the trace: a second evaluator says whether the two are those of one run, and if not, which line differs
 /// first.
 ///
+/// A run with `--resume` fetches a saved state behind the specification, and goes on from there: its rows come behind those of the journal
+/// whose state it is, its verdicts are what the whole journal has behind the verdicts that were settled then, and a row is late where it
+/// is stamped before the last row of that journal. The counts of its end line are its own. A snapshot reads its sources in turns with one worker, and
+/// puts the state that they come to in place of verdicts and trace; the deadlines at the last stamp are left to whoever goes on from it.
+///
 /// Texts and instances are looked up by hashes under the keys of `hasher`: where nobody who writes the sources knows the keys, nobody
 /// can choose rows whose texts or parameters collide. The keys change nothing that is written.
 ///
@@ -154,11 +199,12 @@ fn work<R: Threads + Wait + Sync, F: Shelf, K: Sink, T: Sink, G: Gate + Sync>(
 /// | 3 | the specification was read, and is refused: nothing is traced |
 /// | 4 | all rows of all sources were taken up to their malformed lines; the least source that has one is named. Trace, verdicts and end line were put |
 /// | 5 | a row, a deadline before it, or the deadline at the last stamp has a fault; whether or not what is put to `out` from then on fails |
-/// | 6 | the specification was not given or read, or the trace or the verdicts of a replay, and nothing is traced; or a source was not given, and no row was taken; or it could not be read, and all rows of the other sources were taken. The least of them is named |
+/// | 6 | the specification was not given or read, or a state, or the trace or the verdicts of a replay, and nothing is traced; or a source was not given, and no row was taken; or it could not be read, and all rows of the other sources were taken. The least of them is named |
 /// | 7 | a put failed, and no fault was met before: within a trace line, and `out` has the verdicts of all rows before it; or within the verdicts of the last row or of the deadlines at the last stamp, and the trace is whole; or within the end line of a run that is done or has a malformed source, or of an analysis, a drill or a replay |
 /// | 8 | there is no memory: nothing was put, or the trace has the lines of the rows that were taken, and `out` a front of their verdicts; no end line |
+/// | 9 | the state that a run or a snapshot goes on from was read and is refused: it is damaged, or of another specification; nothing is traced. Or a snapshot has more steps than a state can have |
 ///
-/// With 1, 2, 3, 5 and 6 the put of the end line may fail: its status stays, and `out` has a part of it.
+/// With 1, 2, 3, 5, 6 and 9 the put of the end line may fail: its status stays, and `out` has a part of it.
 ///
 /// Of several the status tells the first of these: what stopped the run (5, 7 or 8), a source that could not be read (6), a
 /// malformed line (4).
@@ -176,10 +222,24 @@ pub fn run_monitor<R: Threads + Wait + Sync, F: Shelf, K: Sink, T: Sink, G: Gate
     // The names asked for are the command's, in order; no other is. Each source is given back.
     ensures asked { Asked (names_asked (map string_bytes words.now)) (F.state shelf.old) (F.state shelf.new) }
     // What the call leaves, by its status: a line of this record for each line of the table above.
-    ensures ended { Ended result (call (map string_bytes words.now) (outside (F.state shelf.old) (K.state out.old) (T.state trace.old))
+    ensures ended { IsWithoutState (map string_bytes words.now) → Ended result (call (map string_bytes words.now) (outside (F.state shelf.old) (K.state out.old) (T.state trace.old))
+        (outside (F.state shelf.new) (K.state out.new) (T.state trace.new))) }
+    // The same of a run that goes on from a saved state: whatever journal it was whose state was saved, it is as if it had never stopped.
+    ensures resumed { (names : Resumption) → resumption_of (map string_bytes words.now) ≡ Some names
+        → EndedResumed result names (call (map string_bytes words.now) (outside (F.state shelf.old) (K.state out.old) (T.state trace.old))
+        (outside (F.state shelf.new) (K.state out.new) (T.state trace.new))) }
+    // And of a snapshot: what is put is the state of the journal so far, or nothing but an end line.
+    ensures snapshot { (names : SnapshotNames) → snapshot_of (map string_bytes words.now) ≡ Some names
+        → EndedSnapshot result names (call (map string_bytes words.now) (outside (F.state shelf.old) (K.state out.old) (T.state trace.old))
         (outside (F.state shelf.new) (K.state out.new) (T.state trace.new))) }
     // Nothing but want of memory keeps a command from its answer.
-    ensures decided { Decided result (call (map string_bytes words.now) (outside (F.state shelf.old) (K.state out.old) (T.state trace.old))
+    ensures decided { IsWithoutState (map string_bytes words.now) → Decided result (call (map string_bytes words.now) (outside (F.state shelf.old) (K.state out.old) (T.state trace.old))
+        (outside (F.state shelf.new) (K.state out.new) (T.state trace.new))) }
+    ensures decided_resumed { (names : Resumption) → resumption_of (map string_bytes words.now) ≡ Some names
+        → DecidedResumed result names (call (map string_bytes words.now) (outside (F.state shelf.old) (K.state out.old) (T.state trace.old))
+        (outside (F.state shelf.new) (K.state out.new) (T.state trace.new))) }
+    ensures decided_snapshot { (names : SnapshotNames) → snapshot_of (map string_bytes words.now) ≡ Some names
+        → DecidedSnapshot result names (call (map string_bytes words.now) (outside (F.state shelf.old) (K.state out.old) (T.state trace.old))
         (outside (F.state shelf.new) (K.state out.new) (T.state trace.new))) }
 {
     puts_add_up();

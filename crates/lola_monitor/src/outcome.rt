@@ -2,6 +2,7 @@
 
 use lola_replay::end::ReplayEnd;
 use lola_report_lines::end::EndLine;
+use lola_save::end::StateEnd;
 use lola_value::front::Refusal;
 use lola_value::text::Text;
 
@@ -15,14 +16,24 @@ pub enum Unplanned {
     Memory,
 }
 
-/// A call ends with a line, that of a run, of a drill or of a replay, or with a report and its last line, or with a fault the lines
-/// before which could not be put, or with a failed put, or for want of memory.
+/// Why there is no engine that goes on from a state.
+#[derive(Clone, Copy, Debug, PartialEq, Eq)]
+pub enum Unloaded {
+    /// The state was not read, or is refused.
+    Stated(StateEnd),
+    /// There is no memory.
+    Memory,
+}
+
+/// A call ends with a line, that of a run, of a drill, of a replay or of a state, or with a text, which is a report and its last line or a
+/// state, or with a fault the lines before which could not be put, or with a failed put, or for want of memory.
 #[derive(Drop)]
 pub enum CallEnd {
     Line(EndLine),
     Drilled(EndLine),
     Report(Text),
     Replayed(ReplayEnd),
+    Stated(StateEnd),
     CutFault,
     Put,
     Memory,

@@ -2,13 +2,15 @@
 ghost use Rattle.std.specs.Prelude.{◌≡◌, ◌<◌, IfOk};
 ghost use Rattle.lola_report_lines.specs.Ends.{end_text};
 ghost use Rattle.lola_replay.specs.ReplayEnds.{replay_end_text};
-ghost use Rattle.lola_monitor.specs.Conclusions.{Concluded, status_found, status_replayed, status_replayed_without, status_with, status_without};
+ghost use Rattle.lola_save.specs.StateEnds.{state_end_text};
+ghost use Rattle.lola_monitor.specs.Conclusions.{Concluded, status_found, status_replayed, status_replayed_without, status_stated, status_with, status_without};
 
 use crate::outcome::CallEnd;
 use lola_port::{PutEnd, Sink};
 use lola_replay::end::{ReplayEnd, replay_end_line};
 use lola_replay::finding::Finding;
 use lola_report_lines::end::{EndLine, end_line};
+use lola_save::end::{StateEnd, state_end_line};
 use lola_value::text::{Memory, Text};
 use std::alloc::Global;
 
@@ -114,6 +116,39 @@ fn put_replay<K: Sink>(alloc: Global, end: ReplayEnd, out: &mut K) -> u8
     }
 }
 
+// The text of the last line of a state.
+fn stated_text(alloc: Global, end: StateEnd) -> Result<Text, Memory>
+    ensures { IfOk result (λ text. text ≡ state_end_text end) }
+{
+    let mut text = Text::from_bytes(alloc, b"")?;
+    state_end_line(end, &mut text)?;
+    Ok(text)
+}
+
+// The status that goes with the last line of a state, whether or not it was put whole.
+fn status_stated(end: StateEnd) -> u8
+    ensures { result ≡ status_stated end }
+{
+    match end {
+        StateEnd::Unreadable => 6,
+        StateEnd::Damaged(_) | StateEnd::OtherSpecification | StateEnd::TooManySteps => 9,
+    }
+}
+
+// Puts the last line of a state, and answers the status.
+fn put_stated<K: Sink>(alloc: Global, end: StateEnd, out: &mut K) -> u8
+    ensures { Concluded result (CallEnd.Stated end) (K.state out.old) (K.state out.new) }
+{
+    let Ok(text) = stated_text(alloc, end) else {
+        return 8;
+    };
+    let bytes = text.as_bytes();
+    match out.put(bytes) {
+        Ok(()) | Err(PutEnd::Failed) => status_stated(end),
+        Err(PutEnd::Memory) => 8,
+    }
+}
+
 /// Puts the last line of a call, or its report, and answers its status.
 pub fn conclude<K: Sink>(alloc: Global, outcome: CallEnd, out: &mut K) -> u8
     ensures { Concluded result outcome (K.state out.old) (K.state out.new) }
@@ -122,6 +157,7 @@ pub fn conclude<K: Sink>(alloc: Global, outcome: CallEnd, out: &mut K) -> u8
         CallEnd::Line(line) | CallEnd::Drilled(line) => line,
         CallEnd::Report(text) => return put_report(&text, out),
         CallEnd::Replayed(end) => return put_replay(alloc, end, out),
+        CallEnd::Stated(end) => return put_stated(alloc, end, out),
         CallEnd::CutFault => return 5,
         CallEnd::Put => return 7,
         CallEnd::Memory => return 8,

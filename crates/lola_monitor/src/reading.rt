@@ -1,14 +1,18 @@
-//! A specification, read whole.
-ghost use Rattle.std.specs.Prelude.{◌≡◌, ◌<◌, ◌≤◌, ◌^◌, [], length, List, ℕ, Some, IfOk, IsErrOf, OnOk};
+//! Texts, read whole.
+ghost use Rattle.std.specs.Prelude.{◌≡◌, ◌<◌, ◌≤◌, ◌^◌, [], length, List, ℕ, Some, IfOk, IsErrOf, OnOk, vec_len};
 ghost use Rattle.std.specs.Io.KnownBytes.{IsAtEnd};
 ghost use Rattle.lola_port.specs.States.{Rose};
 ghost use Rattle.lola_monitor.specs.Outcomes.{AppendsRead, IsReadFront, Marred, Stopped, noted};
+ghost use Rattle.lola_monitor.specs.Replaying.{IsText};
 
 use lola_port::{FetchEnd, Shelf, Source};
 use std::alloc::Global;
 
 // How many bytes are asked for at once.
 const PIECE: usize = 65536;
+
+/// The most bytes of a text: what a source has at most.
+const MOST_BYTES: usize = 4_611_686_018_427_387_904;
 
 // Reads once, and appends what came; tells how many bytes that were.
 fn read_more<S: Source>(
@@ -89,4 +93,20 @@ pub fn read_name<F: Shelf>(
     let bytes = read_all(alloc, &mut file, most);
     shelf.give_back(file);
     bytes
+}
+
+/// Fetches a text, reads all its bytes, and gives the source back.
+pub fn read_text<F: Shelf>(alloc: Global, shelf: &mut F, name: &str) -> Result<Vec<u8>, FetchEnd>
+    requires { (F.state shelf.old).out < 65536 }
+    ensures few { IfOk result (λ text. vec_len text < 2 ^ 63) }
+    ensures text { IfOk result (λ text. IsText ((F.state shelf.old).told name.now) text.items) }
+    ensures noted { OnOk result (F.state shelf.new ≡ noted (F.state shelf.old) name.now) }
+    ensures failed { IsErrOf result FetchEnd.Failed → Marred name.now (F.state shelf.old) (F.state shelf.new) }
+    ensures memory { IsErrOf result FetchEnd.Memory → Stopped name.now (F.state shelf.old) (F.state shelf.new) }
+{
+    let bytes = read_name(alloc, shelf, name, MOST_BYTES)?;
+    if bytes.len() > MOST_BYTES {
+        return Err(FetchEnd::Memory);
+    }
+    Ok(bytes)
 }

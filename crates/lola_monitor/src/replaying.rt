@@ -1,13 +1,11 @@
 //! A replay: a trace and verdicts are read whole, and a second evaluator says what they are.
-ghost use Rattle.std.specs.Prelude.{◌≡◌, ◌<◌, ◌^◌, IfOk, IsErrOf, OnOk, length, map, string_bytes, vec_len};
+ghost use Rattle.std.specs.Prelude.{◌≡◌, ◌<◌, ◌^◌, length, map, string_bytes};
 ghost use Rattle.lola_model.specs.Acceptance.{IsAccepted};
 ghost use Rattle.lola_monitor.specs.Command.{replay_with};
-ghost use Rattle.lola_monitor.specs.Outcomes.{Marred, Stopped, noted};
-ghost use Rattle.lola_monitor.specs.Replaying.{IsText};
 ghost use Rattle.lola_monitor.specs.ReplayOutcomes.{Judges, ReplaysTexts};
 
 use crate::outcome::CallEnd;
-use crate::reading::read_name;
+use crate::reading::read_text;
 use lola_model::plan::Plan;
 use lola_monitor_command::command::ReplayCommand;
 use lola_port::{FetchEnd, Shelf};
@@ -15,25 +13,6 @@ use lola_replay::end::ReplayEnd;
 use lola_replay::replay::replay;
 use lola_value::words::word_at;
 use std::alloc::Global;
-
-/// The most bytes of a text: what a source has at most.
-const MOST_BYTES: usize = 4_611_686_018_427_387_904;
-
-// Fetches a text, reads all its bytes, and gives the source back.
-fn read_text<F: Shelf>(alloc: Global, shelf: &mut F, name: &str) -> Result<Vec<u8>, FetchEnd>
-    requires { (F.state shelf.old).out < 65536 }
-    ensures few { IfOk result (λ text. vec_len text < 2 ^ 63) }
-    ensures text { IfOk result (λ text. IsText ((F.state shelf.old).told name.now) text.items) }
-    ensures noted { OnOk result (F.state shelf.new ≡ noted (F.state shelf.old) name.now) }
-    ensures failed { IsErrOf result FetchEnd.Failed → Marred name.now (F.state shelf.old) (F.state shelf.new) }
-    ensures memory { IsErrOf result FetchEnd.Memory → Stopped name.now (F.state shelf.old) (F.state shelf.new) }
-{
-    let bytes = read_name(alloc, shelf, name, MOST_BYTES)?;
-    if bytes.len() > MOST_BYTES {
-        return Err(FetchEnd::Memory);
-    }
-    Ok(bytes)
-}
 
 // What a trace and verdicts are found to be, as a call ends with it.
 fn end_of(

@@ -2,15 +2,16 @@
 ghost use Rattle.std.specs.Prelude.{◌≡◌, ◌≤◌, ℕ, List, [], IfOk, false, length, map, string_bytes};
 ghost use Rattle.std.specs.Vec.{vec_capacity};
 ghost use Rattle.lola_port.specs.States.{ShelfState};
-ghost use Rattle.lola_model.specs.Acceptance.{IsAccepted};
-ghost use Rattle.lola_engine.specs.Engines.{IsOptionInTime};
+ghost use Rattle.lola_model.specs.Journal.{opening_time};
+ghost use Rattle.lola_model.specs.declared.journal.Entry.{Entry};
 ghost use Rattle.lola_rows.specs.Reading.{Shape};
-ghost use Rattle.lola_monitor_run.specs.Running.{Stands, keeping, setting_in};
+ghost use Rattle.lola_monitor_run.specs.Running.{keeping};
 ghost use Rattle.lola_monitor_run.specs.Verdicts.{most_rows};
-ghost use Rattle.lola_monitor_run.specs.Feeds.{AreInPlace, AreReady, EndsRun, supply_of, world};
+ghost use Rattle.lola_monitor_run.specs.Feeds.{AreInPlace, AreReady, supply_of, world};
+ghost use Rattle.lola_monitor_run.specs.Behind.{EndsBehind, HasTakenNone, IsBehind};
 ghost use Rattle.lola_feed.specs.Lending.{AreGiven, AreRooms, IsLent, names_at, places_of};
 ghost use Rattle.lola_monitor.specs.Monitor.{outside};
-ghost use Rattle.lola_monitor.specs.Outcomes.{RunsSources, unfetched};
+ghost use Rattle.lola_monitor.specs.Outcomes.{EndsSources, Grew, RunsBehindAny, TakesSources, unfetched};
 
 use crate::ending::{end_of, outcome_after};
 use crate::outcome::CallEnd;
@@ -22,11 +23,10 @@ use lola_intake::seats::{EngineSeat, SourceSeat};
 use lola_model::plan::Plan;
 use lola_monitor_command::command::RunCommand;
 use lola_monitor_command::said::IntakeKind;
-use lola_monitor_run::rows::{MOST_ROWS, run_in_turns};
+use lola_monitor_run::rows::{MOST_ROWS, resume_in_turns};
 use lola_monitor_run::run::Run;
-use lola_monitor_run::run_law::{no_rows_have_no_verdicts, puts_add_up};
 use lola_monitor_run::stop::Stop;
-use lola_monitor_threads::run::run_in_threads;
+use lola_monitor_threads::run::resume_in_threads;
 use lola_port::{Gate, Shelf, Sink, Source};
 use lola_queue_intake::intake::QueueIntake;
 use lola_queue_intake::seats::{QueueSeat, TakerSeat};
@@ -34,49 +34,30 @@ use lola_report_lines::end::EndLine;
 use lola_rows::EmptyReader;
 use lola_value::text::Memory;
 use std::alloc::Global;
-use std::hash::RandomState;
 use std::sync::Wait;
 use std::thread::Threads;
 
-/// The room that a run takes before its sources are fetched: the run, room for each reader, and for the workers.
+/// The room that sources take before they are fetched: for each reader, and for the workers.
 #[derive(Drop)]
-struct Room<S: Source> {
-    run: Run,
-    readers: Vec<EmptyReader>,
-    workers: Vec<SourceWorker<S>>,
+pub struct Room<S: Source> {
+    pub readers: Vec<EmptyReader>,
+    pub workers: Vec<SourceWorker<S>>,
 }
 
-// The room for a run of a plan, as a command says.
-fn reserve<S: Source>(
-    alloc: Global,
-    hasher: RandomState,
-    plan: Plan,
-    command: &RunCommand,
-) -> Result<Room<S>, Memory>
-    requires accepted { IsAccepted plan }
-    requires workers { (1 ≤ command.now.workers) × (command.now.workers ≤ 64) }
-    requires start { IsOptionInTime command.now.start }
-    requires sources { (1 ≤ length command.now.sources) × (length command.now.sources ≤ 64) }
-    ensures run { IfOk result (λ room. Stands [] (keeping room.run)) }
-    ensures setting { IfOk result (λ room. setting_in (keeping room.run) ≡ record { plan = plan; start = command.now.start; show = command.now.show }) }
-    ensures readers { IfOk result (λ room. AreRooms plan (length command.now.sources) most_rows room.readers.items) }
+/// The room for so many sources of a plan.
+pub fn reserve<S: Source>(alloc: Global, plan: &Plan, sources: usize) -> Result<Room<S>, Memory>
+    requires { sources ≤ 64 }
+    ensures readers { IfOk result (λ room. AreRooms plan.now sources most_rows room.readers.items) }
     ensures none { IfOk result (λ room. room.workers.items ≡ []) }
-    ensures places { IfOk result (λ room. length command.now.sources ≤ vec_capacity room.workers) }
+    ensures places { IfOk result (λ room. sources ≤ vec_capacity room.workers) }
 {
-    let sources = command.sources.as_slice().len();
-    let readers = reserve_all::<S>(alloc, &plan, sources as u32, MOST_ROWS)?;
+    let readers = reserve_all::<S>(alloc, plan, sources as u32, MOST_ROWS)?;
     let workers = Vec::with_capacity(alloc, sources)?;
-    let start = command.start;
-    let run = Run::create(alloc, hasher, plan, start, command.show, command.workers)?;
-    Ok(Room {
-        run,
-        readers,
-        workers,
-    })
+    Ok(Room { readers, workers })
 }
 
-// What a call ends with where not all sources were fetched.
-fn not_fetched(stop: FetchStop) -> CallEnd
+/// What a call ends with where not all sources were fetched.
+pub fn not_fetched(stop: FetchStop) -> CallEnd
     ensures { result ≡ unfetched stop }
 {
     match stop {
@@ -97,19 +78,20 @@ fn run_in_time<R: Threads + Wait + Sync, S: Source + Send, K: Sink, T: Sink, G: 
     trace: &mut T,
     gate: &G,
 ) -> (Vec<SourceWorker<S>>, Result<(), Stop>)
-    requires stands { Stands [] (keeping run.old) }
+    requires none { HasTakenNone (keeping run.old) }
     requires ready { AreReady (keeping run.old).state.plan workers.items }
-    requires start { start ≡ (keeping run.old).state.given_start }
-    ensures run { EndsRun false result.1 (world (keeping run.old) (map supply_of workers.items) (K.state out.old) (T.state trace.old))
+    requires start { opening_time start ≡ (keeping run.old).state.merged }
+    ensures run { (before : List Entry) → IsBehind before before (keeping run.old)
+        → EndsBehind false before result.1 (world (keeping run.old) (map supply_of workers.items) (K.state out.old) (T.state trace.old))
         (world (keeping run.new) (map supply_of result.0.items) (K.state out.new) (T.state trace.new)) }
     ensures places { AreInPlace workers.items result.0.items }
     ensures plan { (keeping run.new).state.plan ≡ (keeping run.old).state.plan }
 {
     match intake {
-        IntakeKind::Lock => run_in_threads::<SourceSeat, EngineSeat, Intake, R, S, K, T, G>(
+        IntakeKind::Lock => resume_in_threads::<SourceSeat, EngineSeat, Intake, R, S, K, T, G>(
             rt, alloc, run, workers, start, out, trace, gate,
         ),
-        IntakeKind::Queue => run_in_threads::<QueueSeat, TakerSeat, QueueIntake, R, S, K, T, G>(
+        IntakeKind::Queue => resume_in_threads::<QueueSeat, TakerSeat, QueueIntake, R, S, K, T, G>(
             rt, alloc, run, workers, start, out, trace, gate,
         ),
     }
@@ -128,22 +110,23 @@ fn run_workers<R: Threads + Wait + Sync, S: Source + Send, K: Sink, T: Sink, G: 
     trace: &mut T,
     gate: &G,
 ) -> (Vec<SourceWorker<S>>, Result<(), Stop>)
-    requires stands { Stands [] (keeping run.old) }
+    requires none { HasTakenNone (keeping run.old) }
     requires ready { AreReady (keeping run.old).state.plan workers.items }
-    requires start { start ≡ (keeping run.old).state.given_start }
-    ensures run { EndsRun in_turns result.1 (world (keeping run.old) (map supply_of workers.items) (K.state out.old) (T.state trace.old))
+    requires start { opening_time start ≡ (keeping run.old).state.merged }
+    ensures run { (before : List Entry) → IsBehind before before (keeping run.old)
+        → EndsBehind in_turns before result.1 (world (keeping run.old) (map supply_of workers.items) (K.state out.old) (T.state trace.old))
         (world (keeping run.new) (map supply_of result.0.items) (K.state out.new) (T.state trace.new)) }
     ensures places { AreInPlace workers.items result.0.items }
     ensures plan { (keeping run.new).state.plan ≡ (keeping run.old).state.plan }
 {
     if in_turns {
-        run_in_turns(rt, alloc, run, workers, start, out, trace, gate)
+        resume_in_turns(rt, alloc, run, workers, start, out, trace, gate)
     } else {
         run_in_time(rt, alloc, run, workers, start, intake, out, trace, gate)
     }
 }
 
-// Runs sources that are lent, whatever names they have, by a run that is new, and gives them back.
+// Runs sources that are lent, whatever names they have, and gives them back.
 fn run_lent<R: Threads + Wait + Sync, F: Shelf, K: Sink, T: Sink, G: Gate + Sync>(
     rt: &R,
     alloc: Global,
@@ -157,15 +140,18 @@ fn run_lent<R: Threads + Wait + Sync, F: Shelf, K: Sink, T: Sink, G: Gate + Sync
     trace: &mut T,
     gate: &G,
 ) -> CallEnd
-    requires stands { Stands [] (keeping run.old) }
+    requires none { HasTakenNone (keeping run.old) }
     requires ready { AreReady (keeping run.old).state.plan workers.items }
-    requires start { start ≡ (keeping run.old).state.given_start }
+    requires start { opening_time start ≡ (keeping run.old).state.merged }
     requires given { AreGiven (F.state shelf.old).asks (places_of workers.items) }
     requires out { length workers.items ≤ (F.state shelf.old).out }
-    ensures { (names : List (List ℕ)) (rooms : List Shape) (before : ShelfState)
+    ensures ends { EndsSources result }
+    ensures runs { (names : List (List ℕ)) (rooms : List Shape) (before : ShelfState)
         → IsLent names rooms before (F.state shelf.old) workers.items → AreRooms (keeping run.old).state.plan (length names) most_rows rooms
-        → RunsSources in_turns result (setting_in (keeping run.old)) names (outside before (K.state out.old) (T.state trace.old))
+        → RunsBehindAny in_turns result (keeping run.old) names (outside before (K.state out.old) (T.state trace.old))
         (outside (F.state shelf.new) (K.state out.new) (T.state trace.new)) }
+    ensures asked { (names : List (List ℕ)) (rooms : List Shape) (before : ShelfState)
+        → IsLent names rooms before (F.state shelf.old) workers.items → Grew names before (F.state shelf.new) }
 {
     let (workers, stopped) = run_workers(
         rt, alloc, run, workers, start, in_turns, intake, out, trace, gate,
@@ -179,7 +165,9 @@ fn run_lent<R: Threads + Wait + Sync, F: Shelf, K: Sink, T: Sink, G: Gate + Sync
 fn run_room<R: Threads + Wait + Sync, F: Shelf, K: Sink, T: Sink, G: Gate + Sync>(
     rt: &R,
     alloc: Global,
+    run: &mut Run,
     room: Room<F::File>,
+    start: Option<u64>,
     words: &[String],
     command: &RunCommand,
     shelf: &mut F,
@@ -189,32 +177,30 @@ fn run_room<R: Threads + Wait + Sync, F: Shelf, K: Sink, T: Sink, G: Gate + Sync
 ) -> CallEnd
     requires out { (F.state shelf.old).out ≡ 0 }
     requires sources { (1 ≤ length command.now.sources) × (length command.now.sources ≤ 64) }
-    requires run { Stands [] (keeping room.run) }
-    requires start { command.now.start ≡ (keeping room.run).state.given_start }
-    requires readers { AreRooms (keeping room.run).state.plan (length command.now.sources) most_rows room.readers.items }
+    requires going { HasTakenNone (keeping run.old) }
+    requires start { opening_time start ≡ (keeping run.old).state.merged }
+    requires readers { AreRooms (keeping run.old).state.plan (length command.now.sources) most_rows room.readers.items }
     requires none { room.workers.items ≡ [] }
     requires places { length command.now.sources ≤ vec_capacity room.workers }
-    ensures { RunsSources command.now.in_turns result (setting_in (keeping room.run)) (names_at (map string_bytes words.now) command.now.sources)
+    ensures runs { TakesSources command.now.in_turns result (keeping run.old) (names_at (map string_bytes words.now) command.now.sources)
         (outside (F.state shelf.old) (K.state out.old) (T.state trace.old))
         (outside (F.state shelf.new) (K.state out.new) (T.state trace.new)) }
+    ensures asked { Grew (names_at (map string_bytes words.now) command.now.sources) (F.state shelf.old) (F.state shelf.new) }
 {
     let Room {
-        mut run,
         readers,
         mut workers,
     } = room;
     let names = command.sources.as_slice();
     if let Err(stop) = fetch_all(shelf, words, names, readers, &mut workers) {
-        puts_add_up();
-        no_rows_have_no_verdicts();
         return not_fetched(stop);
     }
     run_lent(
         rt,
         alloc,
-        &mut run,
+        run,
         workers,
-        command.start,
+        start,
         command.in_turns,
         command.intake,
         shelf,
@@ -224,33 +210,38 @@ fn run_room<R: Threads + Wait + Sync, F: Shelf, K: Sink, T: Sink, G: Gate + Sync
     )
 }
 
-/// Fetches the sources of a command, runs their rows by a plan, in turns where the command says so and else as their rows come,
-/// and gives them back. The room that the plan alone decides is made before the first source is fetched, and that for what the
-/// sources share before the first row is read; the heading's columns and the room for a line's fields are made when the first
-/// lines of each are read.
+/// Fetches the sources of a command, runs their rows, in turns where the command says so and else as their rows come, and gives them
+/// back. The run is new, or goes on behind a journal that others had taken, whatever that is; the merge of the sources begins at
+/// `start`, which is the time that the run has come to. The room that the plan alone decides is made before the first source is
+/// fetched, and that for what the sources share before the first row is read; the heading's columns and the room for a line's fields
+/// are made when the first lines of each are read.
 pub fn run_sources<R: Threads + Wait + Sync, F: Shelf, K: Sink, T: Sink, G: Gate + Sync>(
     rt: &R,
     alloc: Global,
-    hasher: RandomState,
-    plan: Plan,
-    command: &RunCommand,
+    run: Run,
+    start: Option<u64>,
     words: &[String],
+    command: &RunCommand,
     shelf: &mut F,
     out: &mut K,
     trace: &mut T,
     gate: &G,
 ) -> CallEnd
     requires out { (F.state shelf.old).out ≡ 0 }
-    requires accepted { IsAccepted plan }
-    requires workers { (1 ≤ command.now.workers) × (command.now.workers ≤ 64) }
-    requires start { IsOptionInTime command.now.start }
+    requires none { HasTakenNone (keeping run) }
+    requires start { opening_time start ≡ (keeping run).state.merged }
     requires sources { (1 ≤ length command.now.sources) × (length command.now.sources ≤ 64) }
-    ensures { RunsSources command.now.in_turns result (record { plan = plan; start = command.now.start; show = command.now.show }) (names_at (map string_bytes words.now) command.now.sources)
+    ensures runs { TakesSources command.now.in_turns result (keeping run) (names_at (map string_bytes words.now) command.now.sources)
         (outside (F.state shelf.old) (K.state out.old) (T.state trace.old))
         (outside (F.state shelf.new) (K.state out.new) (T.state trace.new)) }
+    ensures asked { Grew (names_at (map string_bytes words.now) command.now.sources) (F.state shelf.old) (F.state shelf.new) }
 {
-    let Ok(room) = reserve(alloc, hasher, plan, command) else {
+    let mut run = run;
+    let sources = command.sources.as_slice().len();
+    let Ok(room) = reserve(alloc, run.plan(), sources) else {
         return CallEnd::Memory;
     };
-    run_room(rt, alloc, room, words, command, shelf, out, trace, gate)
+    run_room(
+        rt, alloc, &mut run, room, start, words, command, shelf, out, trace, gate,
+    )
 }

@@ -59,11 +59,11 @@ fn source_at<'a>(case: &Case<'a>, number: usize) -> Source<'a> {
     }
 }
 
-/// The words of a run with this option behind the command's.
+/// The words of a call, with this option behind the command's unless it is empty.
 fn words(alloc: Global, texts: &[&str], option: &str) -> Result<Vec<String>, Memory> {
     let mut words = Vec::new(alloc);
     for (place, text) in texts.iter().enumerate() {
-        if place == 2 {
+        if place == 2 && !option.is_empty() {
             words.push(String::from_str(alloc, option)?)?;
         }
         words.push(String::from_str(alloc, text)?)?;
@@ -113,7 +113,8 @@ pub struct Left {
     pub trace: MemorySink,
 }
 
-/// Runs a command with this option over the objects of a case; none where they have no form that a shelf takes.
+/// Runs a command with this option over the objects of a case, or with none where it is empty; none where they have no form that a shelf
+/// takes.
 pub fn run<R: Threads + Wait + Sync, G: Gate + Sync>(
     rt: &R,
     alloc: Global,
@@ -141,6 +142,24 @@ pub fn run<R: Threads + Wait + Sync, G: Gate + Sync>(
     Ok(Some(Left { status, out, trace }))
 }
 
+/// Whether a call with this option, or with none where it is empty, leaves what the case says.
+pub fn leaves_with<R: Threads + Wait + Sync>(
+    rt: &R,
+    alloc: Global,
+    texts: &[&str],
+    option: &str,
+    case: &Case<'_>,
+) -> Result<bool, Memory> {
+    let Some(left) = run(rt, alloc, texts, option, case, &IdleGate)? else {
+        return Ok(false);
+    };
+    Ok(
+        left.status == case.status
+            && left.out.written() == case.out.as_bytes()
+            && left.trace.written() == case.trace.as_bytes(),
+    )
+}
+
 /// Whether a run leaves what the case says, whatever its sources hand their rows in at.
 pub fn leaves<R: Threads + Wait + Sync>(
     rt: &R,
@@ -149,13 +168,7 @@ pub fn leaves<R: Threads + Wait + Sync>(
     case: &Case<'_>,
 ) -> Result<bool, Memory> {
     for intake in INTAKES {
-        let Some(left) = run(rt, alloc, texts, intake, case, &IdleGate)? else {
-            return Ok(false);
-        };
-        if left.status != case.status
-            || left.out.written() != case.out.as_bytes()
-            || left.trace.written() != case.trace.as_bytes()
-        {
+        if !leaves_with(rt, alloc, texts, intake, case)? {
             return Ok(false);
         }
     }

@@ -1,6 +1,6 @@
 use Rattle.std.proofs.Common.{Global, [], ◌∷◌, List, ℕ, Some, map, string_bytes, ap, sym, subst, refl, ◌∙◌}
 use Rattle.lola_value.specs.Words.{word_at}
-use Rattle.lola_monitor.specs.Command.{ReplayNames, replay_names, replay_with}
+use Rattle.lola_monitor.specs.Command.{replay_with}
 use Rattle.lola_monitor.specs.Monitor.{outside}
 use Rattle.lola_monitor.specs.Outcomes.{ReadPlan, Works}
 use Rattle.lola_monitor.proofs.Asking.{replay_is, replayed_names, replayed_specification}

@@ -1,4 +1,6 @@
-use Rattle.std.proofs.Common.{Global, List, ℕ, ◌∷◌, Some, map, string_bytes, ap, sym, subst, refl, ◌∙◌}
+use Rattle.std.proofs.Common.{Global, List, ℕ, ◌∷◌, Some, inl, map, string_bytes, ap, sym, subst, refl, ◌∙◌}
+use Rattle.lola_model.specs.Journal.{opening_time}
+use Rattle.lola_monitor_run.specs.Running.{keeping}
 use Rattle.lola_monitor_run.specs.Verdicts.{Setting}
 use Rattle.lola_value.specs.Words.{word_at}
 use Rattle.lola_monitor.specs.Command.{Names}
@@ -6,7 +8,7 @@ use Rattle.lola_monitor.specs.Monitor.{outside}
 use Rattle.lola_monitor.specs.Outcomes.{Works}
 use Rattle.lola_monitor.proofs.Asking.{names_are, run_is, specification_is}
 use Rattle.lola_monitor.proofs.Options.{sources_are, start_is, workers_are}
-use Rattle.lola_monitor.proofs.Calls.{asked_for, grew_sources, grew_twice, grew_unplanned}
+use Rattle.lola_monitor.proofs.Calls.{asked_for, grew_noted, grew_twice, grew_unplanned}
 use Rattle.lola_monitor.proofs.Working.{works_after, works_unplanned}
 use Rattle.lola_monitor.proofs.monitor.run.Goals as goal
 
@@ -15,7 +17,7 @@ returns-in-Err-clause-works g c =
     let words = map (string_bytes {Z = Global}) c.args.words.now in
     let before = outside (g.F.Shelf.state c.args.shelf.now) (g.K.Sink.state c.args.out.now) (g.T.Sink.state c.args.trace.now) in
     let after = outside (g.F.Shelf.state c.read_plan.new.shelf) (g.K.Sink.state c.args.out.now) (g.T.Sink.state c.args.trace.now) in
-    let is = specification_is words c.args.command.now c.requires.is_run ∙ ap Some (sym c.word_at.ensures) in
+    let is = specification_is words c.args.command.now c.requires.is_run c.requires.is_anew ∙ ap Some (sym c.word_at.ensures) in
     subst (λ outcome. Works outcome words before after) (sym c.without_plan.ensures)
     (works_unplanned words c.word_at.result.now before after (record { trace = refl; out = refl }) is c.in-Err.end c.in-Err.ensures)
 
@@ -24,8 +26,20 @@ returns-in-Err-clause-asked g c =
     let words = map (string_bytes {Z = Global}) c.args.words.now in
     let rest = map (word_at words) c.args.command.now.sources in
     asked_for words (c.word_at.result.now ∷ rest) (g.F.Shelf.state c.args.shelf.now) (g.F.Shelf.state c.read_plan.new.shelf)
-    (names_are words c.args.command.now c.requires.is_run ∙ ap (λ (n : List ℕ). n ∷ rest) (sym c.word_at.ensures))
+    (names_are words c.args.command.now c.requires.is_run c.requires.is_anew ∙ ap (λ (n : List ℕ). n ∷ rest) (sym c.word_at.ensures))
     (grew_unplanned c.in-Err.end c.word_at.result.now rest _ _ c.in-Err.ensures)
+
+-- no memory for the run
+pub returns-in_default-clause-works : goal.returns-in_default-clause-works
+returns-in_default-clause-works g c = inl (record { trace = refl; out = refl })
+
+pub returns-in_default-clause-asked : goal.returns-in_default-clause-asked
+returns-in_default-clause-asked g c =
+    let words = map (string_bytes {Z = Global}) c.args.words.now in
+    let rest = map (word_at words) c.args.command.now.sources in
+    asked_for words (c.word_at.result.now ∷ rest) (g.F.Shelf.state c.args.shelf.now) (g.F.Shelf.state c.read_plan.new.shelf)
+    (names_are words c.args.command.now c.requires.is_run c.requires.is_anew ∙ ap (λ (n : List ℕ). n ∷ rest) (sym c.word_at.ensures))
+    (grew_noted c.word_at.result.now rest _ _ c.in-Ok.ensures.shelf)
 
 pub returns-clause-works : goal.returns-clause-works
 returns-clause-works g c =
@@ -42,29 +56,32 @@ returns-clause-works g c =
     let before = outside (g.F.Shelf.state c.args.shelf.now) (g.K.Sink.state c.args.out.now) (g.T.Sink.state c.args.trace.now) in
     let after = outside (g.F.Shelf.state c.run_sources.new.shelf) (g.K.Sink.state c.run_sources.new.out) (g.T.Sink.state c.run_sources.new.trace) in
     works_after words (with_name c.word_at.result.now) c.in-Ok.plan before after (g.F.Shelf.state c.read_plan.new.shelf)
-    (run_is words command c.requires.is_run ∙ ap (λ (n : List ℕ). Some (with_name n)) (sym c.word_at.ensures))
-    c.in-Ok.ensures.is_plan c.in-Ok.ensures.accepted c.in-Ok.ensures.one_model c.in-Ok.ensures.shelf c.run_sources.result c.run_sources.ensures
+    (run_is words command c.requires.is_run c.requires.is_anew ∙ ap (λ (n : List ℕ). Some (with_name n)) (sym c.word_at.ensures))
+    c.in-Ok.ensures.is_plan c.in-Ok.ensures.accepted c.in-Ok.ensures.one_model c.in-Ok.ensures.shelf c.run_sources.result (keeping c.in-Ok-create.run')
+    c.in-Ok-create.ensures.setting c.in-Ok-create.ensures.behind c.run_sources.ensures.runs
 
 pub returns-clause-asked : goal.returns-clause-asked
 returns-clause-asked g c =
     let words = map (string_bytes {Z = Global}) c.args.words.now in
     let command = c.args.command.now in
-    let setting : Setting = record { plan = c.in-Ok.plan; start = command.start; show = command.show } in
     let sources = map (word_at words) command.sources in
     let before = g.F.Shelf.state c.args.shelf.now in
     let mid = g.F.Shelf.state c.read_plan.new.shelf in
     let after = g.F.Shelf.state c.run_sources.new.shelf in
-    let mid_all = outside mid (g.K.Sink.state c.args.out.now) (g.T.Sink.state c.args.trace.now) in
-    let after_all = outside after (g.K.Sink.state c.run_sources.new.out) (g.T.Sink.state c.run_sources.new.trace) in
     asked_for words (c.word_at.result.now ∷ sources) before after
-    (names_are words command c.requires.is_run ∙ ap (λ (n : List ℕ). n ∷ sources) (sym c.word_at.ensures))
-    (grew_twice c.word_at.result.now sources before mid after c.in-Ok.ensures.shelf (grew_sources command.in_turns c.run_sources.result setting sources mid_all after_all c.run_sources.ensures))
+    (names_are words command c.requires.is_run c.requires.is_anew ∙ ap (λ (n : List ℕ). n ∷ sources) (sym c.word_at.ensures))
+    (grew_twice c.word_at.result.now sources before mid after c.in-Ok.ensures.shelf c.run_sources.ensures.asked)
 
-pub run_sources-requires-clause-workers : goal.run_sources-requires-clause-workers
-run_sources-requires-clause-workers g c κs lives = workers_are (map (string_bytes {Z = Global}) c.args.words.now) c.args.command.now c.requires.is_run
+pub create-requires-clause-workers : goal.create-requires-clause-workers
+create-requires-clause-workers g c = workers_are (map (string_bytes {Z = Global}) c.args.words.now) c.args.command.now c.requires.is_run
+
+pub create-requires-clause-start : goal.create-requires-clause-start
+create-requires-clause-start g c = start_is (map (string_bytes {Z = Global}) c.args.words.now) c.args.command.now c.requires.is_run
 
 pub run_sources-requires-clause-start : goal.run_sources-requires-clause-start
-run_sources-requires-clause-start g c κs lives = start_is (map (string_bytes {Z = Global}) c.args.words.now) c.args.command.now c.requires.is_run
+run_sources-requires-clause-start g c κs lives =
+    let run = c.in-Ok-create.ensures in
+    ap (λ (s : Setting). opening_time s.start) (sym run.setting) ∙ sym run.fresh.engine.merged
 
 pub run_sources-requires-clause-sources : goal.run_sources-requires-clause-sources
 run_sources-requires-clause-sources g c κs lives = sources_are (map (string_bytes {Z = Global}) c.args.words.now) c.args.command.now c.requires.is_run

@@ -1,0 +1,46 @@
+-- The state that a run has come to, and how many steps it has.
+use Rattle.std.proofs.Common.{◌≡◌, ◌↔◌, ℕ, ◌<◌, ◌≤◌, Bool, true, false, IsTrue, List, nat_lt, refl, subst, arith}
+use Rattle.std.proofs.lemmas.Bool.Decides.{nat_tests}
+use Rattle.lola_model.specs.declared.journal.Entry.{Entry}
+use Rattle.lola_engine.specs.Behind.{StandsBehind}
+use Rattle.lola_engine.specs.Resuming.{HasReached}
+use Rattle.lola_engine.specs.declared.engine.EngineState.{EngineState}
+use Rattle.lola_engine.specs.declared.times.RunTimes.{RunTimes}
+use Rattle.lola_instances.specs.Stores.{bounded_remembers, bounded_seen}
+use Rattle.lola_instances.specs.declared.store.BoundedStore.{BoundedStore}
+use Rattle.lola_save.specs.declared.end.StateEnd.TheVariants as state_end
+use Rattle.lola_save_law.specs.JournalStates.{state_of}
+use Rattle.lola_save_text.specs.Fitting.{most_steps}
+use Rattle.lola_save_text.specs.Lines.{state_text}
+use Rattle.lola_monitor_run.specs.Running.{Keeping}
+use Rattle.lola_monitor.specs.SnapshotOutcomes.{SavesState}
+use Rattle.lola_monitor.specs.declared.outcome.CallEnd.TheVariants.{Report, Stated}
+
+-- a number that is not more than the most
+pub few_of : (b : Bool) (n most : ℕ) → (IsTrue b ↔ (most < n)) → b ≡ false → n ≤ most
+few_of b n most is none = go (nat_lt most n) refl
+  where
+    go : (t : Bool) → nat_lt most n ≡ t → n ≤ most
+    go false less = grind (arith, nat_tests, less)
+    go true less = let more : most < n = grind (arith, nat_tests, less) in let so : b ≡ true = is.1 more in absurd (cc)
+
+-- an engine has come so far with whatever journal it stands for
+abbrev pub Reaches : EngineState → BoundedStore → RunTimes → Type 0
+Reaches e s times = (before journal : List Entry) → StandsBehind e (bounded_seen s) (bounded_remembers s) before journal → HasReached e.plan e.given_start journal times
+
+-- this is the text of the state of whatever journal it stands for
+abbrev pub Writes : List ℕ → EngineState → BoundedStore → List ℕ → Type 0
+Writes specification e s text =
+    (before journal : List Entry) → StandsBehind e (bounded_seen s) (bounded_remembers s) before journal → text ≡ state_text specification e.plan (state_of e.plan e.given_start journal)
+
+module _ (specification : List ℕ) (kept : Keeping) (e : EngineState) (s : BoundedStore) (times : RunTimes) (same_state : e ≡ kept.state) (same_store : s ≡ kept.store) (reaches : Reaches e s times) where
+  kept_reaches : Reaches kept.state kept.store times
+  kept_reaches = subst (λ (x : EngineState). Reaches x kept.store times) same_state (subst (λ (y : BoundedStore). Reaches e y times) same_store reaches)
+
+  pub saves_text : (text : List ℕ) → times.steps ≤ most_steps → Writes specification e s text → SavesState (Report text) specification kept
+  saves_text text few writes before journal stands =
+      let kept_writes = subst (λ (x : EngineState). Writes specification x kept.store text) same_state (subst (λ (y : BoundedStore). Writes specification e y text) same_store writes) in
+      (subst (λ n. n ≤ most_steps) (kept_reaches before journal stands.engine).steps few, kept_writes before journal stands.engine)
+
+  pub saves_none : most_steps < times.steps → SavesState (Stated state_end.TooManySteps) specification kept
+  saves_none many before journal stands = subst (λ n. most_steps < n) (kept_reaches before journal stands.engine).steps many
