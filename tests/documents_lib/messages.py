@@ -14,7 +14,7 @@ COLUMNS = "code\tname\tsentence\tsection"
 REFUSALS = [f"E{number}" for number in (*range(1, 20), 21)]
 KINDS = [f"kind {number}" for number in range(1, 9)]
 FAULTS = [f"fault {number}" for number in range(1, 4)]
-STATUSES = [f"status {number}" for number in range(9)]
+STATUSES = [f"status {number}" for number in range(10)]
 
 REFUSAL_ROW = re.compile(r"^\| (E\d+) (\w+) \|", re.MULTILINE)
 KIND_ROW = re.compile(r"^\| (\d+) (\w+) \|", re.MULTILINE)

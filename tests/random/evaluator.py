@@ -84,7 +84,9 @@ class Run:
         self.given_start = start
         self.living = [[] if stream.spawn else [Instance((), None)] for stream in streams]
         self.lines = []
-        self.steps = 0
+        self.steps = self.accepted = self.late = 0
+        self.merged = start or 0
+        self.passed = None  # the last moment whose deadlines are run, once a row was accepted
 
     # when clauses are active
 
@@ -251,28 +253,29 @@ class Run:
             passed = due
         return passed
 
+    def take(self, rows):
+        """Takes rows, behind those taken before, and leaves the deadlines at the last stamp."""
+        for stamp, fields in rows:
+            if stamp < self.merged:
+                self.late += 1
+                continue
+            if self.passed is None:
+                self.start = stamp if self.given_start is None else self.given_start
+                self.passed = self.start
+            self.accepted, self.merged = self.accepted + 1, stamp
+            self.passed = max(self.run_deadlines(self.passed, stamp), stamp - 1)
+            self.step(stamp, fields)
+
     def over(self, rows):
         """The lines of a run over rows, and its last line."""
-        accepted = late = 0
-        merged = self.given_start or 0
-        passed = None
         try:
-            for stamp, fields in rows:
-                if stamp < merged:
-                    late += 1
-                    continue
-                if passed is None:
-                    self.start = stamp if self.given_start is None else self.given_start
-                    passed = self.start
-                accepted, merged = accepted + 1, stamp
-                passed = max(self.run_deadlines(passed, stamp), stamp - 1)
-                self.step(stamp, fields)
-            if passed is not None:
-                self.run_deadlines(passed, merged + 1)
+            self.take(rows)
+            if self.passed is not None:
+                self.run_deadlines(self.passed, self.merged + 1)
         except Fault as fault:
             name, (number, kind), time = fault.args
             return self.lines, f"= fault {name} {number} {kind} at {shown_time(time)}"
-        return self.lines, f"= done accepted {accepted} late {late} steps {self.steps} lines {len(self.lines)}"
+        return self.lines, f"= done accepted {self.accepted} late {self.late} steps {self.steps} lines {len(self.lines)}"
 
 
 def shown_time(time):

@@ -20,8 +20,8 @@ def test_usage_and_help(checks: Checks) -> None:
         ended = on_terminal(*words)
         checks.same(f"status of {words}", 2, ended.status)
         told = split(ended, "= usage\n")
-        for piece in ("lolamon run", "lolamon analyse SPEC", "lolamon drill NUMBER ROWS WORKERS", "--show outputs",
-                      "--in-turns", "--intake queue", "--start 0", "--workers 4", "docs/formats.md#command-words"):
+        for piece in ("lolamon run", "lolamon analyse SPEC", "lolamon drill NUMBER ROWS WORKERS", "lolamon snapshot", "--show outputs",
+                      "--in-turns", "--intake queue", "--start 0", "--resume state", "--workers 4", "docs/formats.md#command-words"):
             checks.has(f"help of {words}", piece, told)
         if words:
             checks.lacks(f"no complaint of {words}", "no command", told)
@@ -216,6 +216,39 @@ def test_a_replay_that_finds_nothing(checks: Checks) -> None:
         ended = on_terminal("replay", "sum.lola", *names.split())
         checks.same(f"status of {names}", 6, ended.status)
         checks.has(f"reason of {names}", f"The {what}, none, cannot be read: No such file", split(ended, f"= unreadable {what}\n"))
+
+
+def test_states(checks: Checks) -> None:
+    """The damaged line as it is, the line in which two specifications differ, and a state that is not there."""
+    write("sum.lola", SUM)
+    write("low.lola", SUM.replace("high", "low"))
+    write("a.csv", "time,a\n0,1\n")
+    head = f"lolamon-state 1\nspec {len(SUM)}\n{SUM}\n"
+    write("s", head + "start 0.000000000\nlast 0.000000000\nsteps x\n")
+    write("cut", head + "start 0.0000")
+    write("short", head)
+    for state, line, piece in (("s", 9, "The state s is damaged in line 9: steps x status 9 state: What is to be gone on from"),
+                               ("cut", 7, "The state cut is damaged in line 7, which is cut: start 0.0000 status 9"),
+                               ("short", 7, "The state short is damaged in line 7, which is missing. status 9"),
+                               ("a.csv", 1, "The state a.csv is damaged in line 1: time,a status 9"),
+                               ("/dev/null", 1, "The state /dev/null is damaged in line 1. status 9")):
+        for command in ("run", "snapshot"):
+            ended = on_terminal(command, f"--resume={state}", "sum.lola", "a.csv")
+            checks.same(f"status of {command} {state}", 9, ended.status)
+            told = split(ended, f"= damaged state line {line}\n")
+            checks.has(f"{command} {state}", piece, told)
+            checks.has(f"{command} {state}, the page", "docs/errors.md#status-9-state", told)
+    ended = on_terminal("run", "--resume", "s", "low.lola", "a.csv")
+    told = split(ended, "= state of another specification\n")
+    checks.has("another specification", "The state s was saved under another text than that of low.lola. Line 3 of the state's: "
+               'trigger b > 2 "high" and of the command\'s: trigger b > 2 "low" status 9', told)
+    write("longer.lola", SUM + "\n// more\n")
+    told = split(on_terminal("run", "--resume", "s", "longer.lola", "a.csv"), "= state of another specification\n")
+    checks.has("a longer one", "Line 5 of the state's: (it has ended) and of the command's: // more", told)
+    ended = on_terminal("run", "--resume", "none", "sum.lola", "a.csv")
+    checks.has("no state", "The state, none, cannot be read: No such file", split(ended, "= unreadable state\n"))
+    ended = explained(stand_in("many", "echo '= too many steps'; exit 9"), "snapshot", "--resume", "s", "sum.lola", "a.csv")
+    checks.has("too many steps", "status 9 state: What is to be gone on from is no state of this specification, or a snapshot would", ended.terminal)
 
 
 def test_no_memory(checks: Checks) -> None:
