@@ -4,15 +4,22 @@
 # lines begin with one.
 _lolamon_options() {
     case $1 in
-        lolamon) if [[ ${COMP_WORDS[1]} == replay ]]; then echo --show --start; else echo --show --workers --start --in-turns --intake; fi ;;
+        lolamon)
+            case ${COMP_WORDS[1]} in
+                replay) echo --show --start ;;
+                snapshot) echo --start --resume ;;
+                *) echo --show --workers --start --resume --in-turns --intake ;;
+            esac
+            ;;
         *) "$2" --help 2>/dev/null | sed -n '/^lolamon-/p; /^  --/p' | grep -o -e '--[a-z][a-z-]*' | sort -u ;;
     esac
 }
 
-# Tells those of them that are not there yet, or may come several times.
+# Tells those of them that are not there yet, or may come several times. A start and a state do not stand in one command.
 _lolamon_free_options() {
     local used=" ${COMP_WORDS[*]:0:COMP_CWORD} " option
     for option in $(_lolamon_options "$@"); do
+        if [[ $1 == lolamon && $option$used == @(--start*" --resume "*|--resume*" --start "*) ]]; then continue; fi
         if [[ $used != *" $option "* || $option == --@(scale|thousands|rename|fail-on) ]]; then echo "$option"; fi
     done
 }
@@ -36,12 +43,12 @@ _lolamon_values() {
 _lolamon() {
     local word=${COMP_WORDS[COMP_CWORD]} before=${COMP_WORDS[COMP_CWORD - 1]} command=${COMP_WORDS[0]} values
     local name=${command##*/} has_options=yes
-    if [[ " ${COMP_WORDS[*]:0:COMP_CWORD} " == *" -- "* || $name == lolamon && ${COMP_WORDS[1]} != @(run|replay) ]]; then has_options=; fi
+    if [[ " ${COMP_WORDS[*]:0:COMP_CWORD} " == *" -- "* || $name == lolamon && ${COMP_WORDS[1]} != @(run|replay|snapshot) ]]; then has_options=; fi
     # Bash cuts --show=outputs into three words.
     if [[ $word == = ]]; then word=; elif [[ $before == = ]]; then before=${COMP_WORDS[COMP_CWORD - 2]}; fi
     COMPREPLY=()
     if [[ $name == lolamon ]] && ((COMP_CWORD == 1)); then
-        mapfile -t COMPREPLY < <(compgen -W 'run analyse drill replay' -- "$word")
+        mapfile -t COMPREPLY < <(compgen -W 'run analyse drill replay snapshot' -- "$word")
     elif [[ $name == lolamon-spread ]] && ((COMP_CWORD == 1)) && [[ $word != -* ]]; then
         mapfile -t COMPREPLY < <(compgen -W "$(_lolamon_values --commands)" -- "$word")
     elif [[ $name == lolamon && ${COMP_WORDS[1]} == drill ]]; then

@@ -19,12 +19,14 @@ TIME = r"[0-9]{1,10}\.[0-9]{9}"
 LINE = re.compile(rf"({TIME}) ({NAME})(?: ({TEXT})|(?:\(({VALUE}(?:,{VALUE}){{0,3}})\))? = ({VALUE}))")
 END = re.compile(rf"= (?:done accepted [0-9]+ late [0-9]+ steps [0-9]+ lines [0-9]+|usage|refused E[0-9]+ [A-Za-z]+ at [0-9]+"
                  rf"|malformed source [0-9]+ row [0-9]+ kind [0-9]+ [A-Za-z]+|fault {NAME} [0-9]+ [A-Za-z]+ at {TIME}"
-                 rf"|unreadable (?:specification|source [0-9]+))")
+                 rf"|unreadable (?:specification|state|source [0-9]+)"
+                 rf"|damaged state line [0-9]+|state of another specification|too many steps)")
 TRACE_LINE = re.compile(rf"[0-9]+,[0-9]+,{TIME},")
 ONE_VALUE = re.compile(VALUE)
 ESCAPE = re.compile(r'\\(["\\nrt])')
 ESCAPES = {'"': '"', "\\": "\\", "n": "\n", "r": "\r", "t": "\t"}
-STATUSES = {"done": 0, "same": 0, "differs": 1, "usage": 2, "refused": 3, "malformed": 4, "fault": 5, "unreadable": 6}
+STATUSES = {"done": 0, "same": 0, "differs": 1, "usage": 2, "refused": 3, "malformed": 4, "fault": 5, "unreadable": 6,
+            "damaged": 9, "state": 9, "too": 9}
 SHOWN = 60  # so many characters of a line that does not fit are shown
 
 

@@ -10,7 +10,7 @@ import textwrap
 import time
 from typing import List, Optional
 
-from explaining import differing, places
+from explaining import differing, places, saving
 from explaining.folders import documents
 from explaining.messages import read_messages
 from explaining.places import shown_name
@@ -20,7 +20,9 @@ from explaining.words import Command, NotACommand, asks_for_help, read_command
 REFUSED = re.compile(r"= refused (E\d+) \w+ at (\d{1,18})")
 MALFORMED = re.compile(r"= malformed source (\d{1,18}) row (\d{1,18}) (kind \d+) \w+")
 FAULT = re.compile(r"= fault (\w+) (\d+) \w+ at ([\d.]+)")
-UNREADABLE = re.compile(r"= unreadable (specification|trace|verdicts|source (\d{1,18}))")
+UNREADABLE = re.compile(r"= unreadable (specification|state|trace|verdicts|source (\d{1,18}))")
+DAMAGED = re.compile(r"= damaged state line (\d{1,18})")
+OTHER_SPECIFICATION = "= state of another specification"
 DIFFERS = re.compile(r"= differs (trace|verdicts) (\d{1,18})")
 LATE_ROWS = "docs/formats.md#trace-lines-on-standard-error"
 SEVERAL = "docs/formats.md#several-sources"
@@ -35,6 +37,7 @@ wherever one of its triggers is true.
   lolamon analyse SPEC                   tells what the specification has
   lolamon drill NUMBER ROWS WORKERS      tries the machine with made-up rows
   lolamon replay SPEC TRACE VERDICTS     checks what a run of SPEC wrote
+  lolamon snapshot [OPTION] SPEC SOURCE..   writes the state behind rows
 
 run writes verdicts and the end line to standard output, and each row that
 it read to standard error, which is the trace. Its options, each once:
@@ -47,12 +50,18 @@ it read to standard error, which is the trace. Its options, each once:
       lolamon run --intake queue zones.lola vehicle.csv ground.csv
   --start T        counts time from T seconds, not from the first row
       lolamon run --start 0 height.lola flight.csv
+  --resume STATE   goes on from what a snapshot wrote
+      lolamon run --resume state height.lola tuesday.csv
   --workers N      shares the instances out among 1 to 64 threads
       lolamon run --workers 4 devices.lola messages.csv
 
 A drill of 10,000 rows for each of two sources on four threads:
 
       lolamon drill 1 10000 4
+
+A snapshot takes --start or --resume, and its text becomes a file:
+
+      lolamon snapshot height.lola monday.csv >new && mv new state
 
 A replay takes --show and --start as the run was given them:
 
@@ -104,7 +113,7 @@ class Teller:
 
     def all(self) -> List[str]:
         parts = {1: self.differs, 2: self.usage, 3: self.refused, 4: self.malformed, 5: self.fault,
-                 6: self.unreadable, 7: self.write, 8: self.memory}
+                 6: self.unreadable, 7: self.write, 8: self.memory, 9: self.state}
         if self.outcome.signal is not None:
             return self.crash(self.outcome.signal)
         part = parts.get(self.outcome.status or 0)
@@ -198,8 +207,8 @@ class Teller:
 
     def unread(self, what: str, number: Optional[str]) -> Optional[str]:
         """The file that the end line tells of."""
-        if what == "specification":
-            return self.command.specification if self.command else None
+        if what in ("specification", "state") and self.command:
+            return self.command.options.get("--resume") if what == "state" else self.command.specification
         return self.source(number or {"trace": "0", "verdicts": "1"}[what])
 
     def write(self) -> List[str]:
@@ -215,6 +224,17 @@ class Teller:
         message = self.manual.messages["status 8"]
         return [f"{message.sentence} How much a run takes is told by 'lolamon analyse' and the manual.",
                 *self.manual.more(message.section)]
+
+    def state(self) -> List[str]:
+        """What is wrong with a saved state: the damaged line, or where its specification differs."""
+        path = self.command.options.get("--resume") if self.command else None
+        lines = []
+        match = DAMAGED.fullmatch(self.end_line)
+        if path is not None and match:
+            lines = saving.damaged_line(path, int(match.group(1)), self.width)
+        elif path is not None and self.command and self.end_line == OTHER_SPECIFICATION:
+            lines = saving.other_specification(path, self.command.specification, self.width)
+        return lines + self.manual.meaning("status 9")
 
     def late(self) -> List[str]:
         late = sorted(self.outcome.watch.late.items())

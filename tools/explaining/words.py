@@ -15,6 +15,7 @@ VALUES = {
     "--workers": "a number from 1 to 64",
     "--start": "a time in seconds, such as 0 or 1735689600.5",
     "--intake": "'lock' or 'queue'",
+    "--resume": "the name of a saved state",
 }
 MOST_SOURCES = 64
 MOST_SEED = 2_147_483_646
@@ -22,7 +23,8 @@ MOST_ROWS = 1_000_000
 
 
 class Command(NamedTuple):
-    """A command with its names; the specification is empty for a drill, and the sources of a replay are a trace and verdicts."""
+    """A command with its names; the specification is empty for a drill, and the sources of a replay are a trace and verdicts. A saved state
+    is an option's value."""
 
     name: str
     options: Dict[str, str]
@@ -54,7 +56,7 @@ def is_value(option: str, word: str) -> bool:
         return word in ("lock", "queue")
     if option == "--workers":
         return is_number(word, 2, 1, 64)
-    return is_time(word)
+    return option == "--resume" or is_time(word)
 
 
 class Reader:
@@ -107,16 +109,27 @@ class Reader:
         return self.rest.pop(0)
 
 
-def read_run(words: List[str]) -> Command:
-    reader = Reader(words, (*VALUES, FLAG), apart=True)
+def read_rows(name: str, words: List[str], options: Sequence[str]) -> Command:
+    """A command that takes the rows of sources."""
+    reader = Reader(words, options, apart=True)
     reader.read()
+    if "--start" in reader.options and "--resume" in reader.options:
+        raise NotACommand("--start and --resume stand in one command: a saved state tells from when time counts")
     if not reader.names:
         raise NotACommand("the names of a specification and of a source file are missing")
     if len(reader.names) == 1:
         raise NotACommand(f"behind the specification '{reader.names[0]}' the name of a source file is missing")
     if len(reader.names) > 1 + MOST_SOURCES:
         raise NotACommand(f"these are {len(reader.names) - 1} sources, and {MOST_SOURCES} at most can be read")
-    return Command("run", reader.options, reader.names[0], reader.names[1:])
+    return Command(name, reader.options, reader.names[0], reader.names[1:])
+
+
+def read_run(words: List[str]) -> Command:
+    return read_rows("run", words, (*VALUES, FLAG))
+
+
+def read_snapshot(words: List[str]) -> Command:
+    return read_rows("snapshot", words, ("--start", "--resume"))
 
 
 def read_analyse(words: List[str]) -> Command:
@@ -156,9 +169,9 @@ def read_command(words: List[str]) -> Command:
     """The command that the words are."""
     if not words:
         raise NotACommand("no command was given")
-    readers = {"run": read_run, "analyse": read_analyse, "drill": read_drill, "replay": read_replay}
+    readers = {"run": read_run, "analyse": read_analyse, "drill": read_drill, "replay": read_replay, "snapshot": read_snapshot}
     if words[0] not in readers:
-        raise NotACommand(f"there is no command '{words[0]}'; there are run, analyse, drill and replay")
+        raise NotACommand(f"there is no command '{words[0]}'; there are run, analyse, drill, replay and snapshot")
     return readers[words[0]](words[1:])
 
 
