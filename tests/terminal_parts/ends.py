@@ -224,10 +224,10 @@ def test_states(checks: Checks) -> None:
     write("low.lola", SUM.replace("high", "low"))
     write("a.csv", "time,a\n0,1\n")
     head = f"lolamon-state 1\nspec {len(SUM)}\n{SUM}\n"
-    write("s", head + "start 0.000000000\nlast 0.000000000\nsteps x\n")
+    write("kept", head + "start 0.000000000\nlast 0.000000000\nsteps x\n")
     write("cut", head + "start 0.0000")
     write("short", head)
-    for state, line, piece in (("s", 9, "The state s is damaged in line 9: steps x status 9 state: What is to be gone on from"),
+    for state, line, piece in (("kept", 9, "The state kept is damaged in line 9: steps x status 9 state: What is to be gone on from"),
                                ("cut", 7, "The state cut is damaged in line 7, which is cut: start 0.0000 status 9"),
                                ("short", 7, "The state short is damaged in line 7, which is missing. status 9"),
                                ("a.csv", 1, "The state a.csv is damaged in line 1: time,a status 9"),
@@ -238,16 +238,16 @@ def test_states(checks: Checks) -> None:
             told = split(ended, f"= damaged state line {line}\n")
             checks.has(f"{command} {state}", piece, told)
             checks.has(f"{command} {state}, the page", "docs/errors.md#status-9-state", told)
-    ended = on_terminal("run", "--resume", "s", "low.lola", "a.csv")
+    ended = on_terminal("run", "--resume", "kept", "low.lola", "a.csv")
     told = split(ended, "= state of another specification\n")
-    checks.has("another specification", "The state s was saved under another text than that of low.lola. Line 3 of the state's: "
+    checks.has("another specification", "The state kept was saved under another text than that of low.lola. Line 3 of the state's: "
                'trigger b > 2 "high" and of the command\'s: trigger b > 2 "low" status 9', told)
     write("longer.lola", SUM + "\n// more\n")
-    told = split(on_terminal("run", "--resume", "s", "longer.lola", "a.csv"), "= state of another specification\n")
+    told = split(on_terminal("run", "--resume", "kept", "longer.lola", "a.csv"), "= state of another specification\n")
     checks.has("a longer one", "Line 5 of the state's: (it has ended) and of the command's: // more", told)
     ended = on_terminal("run", "--resume", "none", "sum.lola", "a.csv")
     checks.has("no state", "The state, none, cannot be read: No such file", split(ended, "= unreadable state\n"))
-    ended = explained(stand_in("many", "echo '= too many steps'; exit 9"), "snapshot", "--resume", "s", "sum.lola", "a.csv")
+    ended = explained(stand_in("many", "echo '= too many steps'; exit 9"), "snapshot", "--resume", "kept", "sum.lola", "a.csv")
     checks.has("too many steps", "status 9 state: What is to be gone on from is no state of this specification, or a snapshot would", ended.terminal)
 
 
@@ -299,7 +299,7 @@ def test_all_codes_have_a_heading(checks: Checks) -> None:
         lines = [line.rstrip("\n").split("\t") for line in file]
     checks.same("columns", ["code", "name", "sentence", "section"], lines[0])
     codes = [f"E{n}" for n in (*range(1, 20), 21)] + [f"kind {n}" for n in range(1, 9)] + [f"fault {n}" for n in range(1, 4)]
-    checks.same("codes", codes + [f"status {n}" for n in range(9)], [line[0] for line in lines[1:]])
+    checks.same("codes", codes + [f"status {n}" for n in range(10)], [line[0] for line in lines[1:]])
     named = {line[3] for line in lines[1:]}
     for code, _, sentence, _ in lines[1:]:
         checks.note(sentence.endswith("."), f"sentence of {code}", "a full stop at its end", sentence)
