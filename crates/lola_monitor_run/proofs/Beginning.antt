@@ -1,4 +1,4 @@
--- Workers that are ready, and a run that has not begun.
+-- Workers that are ready, and a run that has taken no row.
 use Rattle.std.proofs.Common.{◌≡◌, ℕ, List, [], Option, None, true, length, refl, sym, ap, ◌∙◌, subst, arith}
 use Rattle.std.proofs.lemmas.List.{length-replicate}
 use Rattle.std.specs.Prelude.{map}
@@ -8,16 +8,14 @@ use Rattle.lola_model.specs.declared.plan.Plan.{Plan}
 use Rattle.lola_model.specs.declared.journal.Entry.{Entry}
 use Rattle.lola_merge.specs.Merging.{Merging, opening}
 use Rattle.lola_feed.specs.Feeding.{Working, handed_in}
-use Rattle.lola_monitor_run.specs.Running.{Keeping, Stands, setting_in}
-use Rattle.lola_monitor_run.specs.Behind.{AtFirst, Beginning, HasTakenNone, RanOutOfMemoryBehind, StandsFrom, front_of}
-use Rattle.lola_monitor_run.specs.Feeds.{AreReady, Feeding, IsFresh, IsIdle, RanOutOfMemory, Supply, World, supplies_of, supply_of, world}
+use Rattle.lola_monitor_run.specs.Running.{Keeping, setting_in}
+use Rattle.lola_monitor_run.specs.Behind.{HasTakenNone, IsBehind, RanOutOfMemoryBehind}
+use Rattle.lola_monitor_run.specs.Feeds.{AreReady, Feeding, IsFresh, IsIdle, Supply, World, supplies_of, supply_of, world}
 use Rattle.lola_monitor_run.specs.Turning.{SoFar}
 use Rattle.lola_monitor_run.proofs.Going.{begun, in_rounds}
 use Rattle.lola_monitor_run.proofs.Rounding.{few_sources, fresh_sources}
-use Rattle.lola_monitor_run.proofs.Runs.{all_now, legal_now, none_taken, started}
-use Rattle.lola_monitor_run.proofs.Taking.{stands_first}
+use Rattle.lola_monitor_run.proofs.Runs.{all_now, legal_now, started}
 use Rattle.lola_monitor_run.proofs.TextsBehind.{all_put_behind}
-use Rattle.lola_monitor_run.proofs.Anew.{out_of_memory_first}
 
 -- workers that are ready, at any merge object, have not begun
 pub ready_fresh : (plan : Plan) (feed : Feeding) → AreReady plan feed.workers → IsFresh feed
@@ -45,30 +43,24 @@ over_workers Says made left olds news merging batch is back says =
     subst (λ (ws : List Working). Says (map supply_of olds) (map supply_of ws)) (sym back) (subst (λ (feed : Feeding). Says (supplies_of feed) (supplies_of left)) is says)
 
 -- a run for which there was no memory before its first row
-cut_at_first : (first : World) (b : Beginning) → SoFar first 0 0 first → StandsFrom b (front_of b) first.kept → RanOutOfMemoryBehind true (front_of b) first first
-cut_at_first first b so stood = record {
+cut_at_first : (first : World) (before : List Entry) → SoFar first 0 0 first → IsBehind before before first.kept → RanOutOfMemoryBehind true before first first
+cut_at_first first before so stood = record {
   came = record {
     journal = so.journal;
-    legal = legal_now first first refl b so.journal (so.stands b stood);
+    legal = legal_now first first refl before so.journal (so.stands before stood);
     sources = so.drawn.of_sources;
     traceable = so.traceable;
     rounds = λ turns. in_rounds first 0 0 first.sources so.journal (omega arith) so.drawn;
   };
   begun = begun first.sources first.sources so.journal so.drawn.fed;
   trace = so.trace;
-  out = all_put_behind (setting_in first.kept) (front_of b) so.journal first.out first.out (all_now first first refl b so.journal (so.stands b stood)) (so.out b stood);
+  out = all_put_behind (setting_in first.kept) before so.journal first.out first.out (all_now first first refl before so.journal (so.stands before stood)) (so.out before stood);
 }
 
 -- a run of ready workers for which there was no memory to begin, or to go on
-pub never_went_on : (kept : Keeping) (workers : List Working) (out trace : SinkState) (b : Beginning) → HasTakenNone kept → StandsFrom b (front_of b) kept → AreReady kept.state.plan workers
-    → RanOutOfMemoryBehind true (front_of b) (world kept (map supply_of workers) out trace) (world kept (map supply_of workers) out trace)
-never_went_on kept workers out trace b none stood ready =
+pub never_went_on : (kept : Keeping) (workers : List Working) (out trace : SinkState) (before : List Entry) → HasTakenNone kept → IsBehind before before kept → AreReady kept.state.plan workers
+    → RanOutOfMemoryBehind true before (world kept (map supply_of workers) out trace) (world kept (map supply_of workers) out trace)
+never_went_on kept workers out trace before none stood ready =
     let feed : Feeding = record { workers = workers; merging = opening 0 None; batch = [] } in
-    cut_at_first (world kept (supplies_of feed) out trace) b
+    cut_at_first (world kept (supplies_of feed) out trace) before
     (started (world kept (supplies_of feed) out trace) (few_sources feed ready.many.1) none (fresh_sources feed (ready_fresh kept.state.plan feed ready))) stood
-
-pub never_begun : (kept : Keeping) (workers : List Working) (out trace : SinkState) → Stands [] kept → AreReady kept.state.plan workers
-    → RanOutOfMemory true (world kept (map supply_of workers) out trace) (world kept (map supply_of workers) out trace)
-never_begun kept workers out trace stands ready =
-    out_of_memory_first true (world kept (map supply_of workers) out trace) (world kept (map supply_of workers) out trace)
-    (never_went_on kept workers out trace AtFirst (none_taken kept stands) (stands_first [] kept stands) ready)

@@ -5,11 +5,10 @@ use Rattle.lola_model.specs.Table.{TableRow}
 use Rattle.lola_model.specs.Model.{last_row}
 use Rattle.lola_model.specs.Faults.{RunFault, fault_of_last}
 use Rattle.lola_model.specs.Runs.{final_lines, first_fault, settled_fault, settled_lines, settled_model, whole_model}
-use Rattle.lola_model.specs.Texts.{table_lines, text_of}
+use Rattle.lola_model.specs.Texts.{table_lines}
 use Rattle.lola_model.specs.declared.journal.Entry.{Entry}
-use Rattle.lola_model.proofs.Journals.{table_lines-append, text_of-append}
+use Rattle.lola_model.proofs.Journals.{table_lines-append}
 use Rattle.lola_monitor_run.specs.Verdicts.{Setting, fault_in, settled_fault_in, verdicts}
-use Rattle.lola_monitor_run.specs.Verdicts.{settled_text}
 use Rattle.lola_model.proofs.Growing.{ended_by_fault, is_ended}
 use Rattle.lola_model.proofs.RunFronts.{settled_is_front}
 
@@ -35,10 +34,6 @@ module _ (s : Setting) (journal : List Entry) where
         ap (table_lines s.show s.plan.spec.streams) w.1 ∙ table_lines-append s.show s.plan.spec.streams (settled_model s.plan s.start journal) w.0,
       )
 
-  -- and so is their text
-  pub text_front : (more : List ℕ) × (verdicts s journal ≡ settled_text s journal ++ more)
-  text_front = let l = lines_front in (text_of l.0, ap text_of l.1 ∙ text_of-append (settled_lines s.plan s.start journal s.show) l.0)
-
   module _ (fault : RunFault) (is : settled_fault_in s journal ≡ Some fault) where
     pub lines_stay : final_lines s.plan s.start journal s.show ≡ settled_lines s.plan s.start journal s.show
     unfolding final_lines settled_lines
@@ -49,18 +44,10 @@ module _ (s : Setting) (journal : List Entry) where
     unfolding first_fault settled_fault
     fault_stays = ap (λ (t : List TableRow). fault_of_last (last_row t)) (whole_stays (ended_by fault is)) ∙ is
 
-    -- and all verdicts are settled
-    pub text_stays : verdicts s journal ≡ settled_text s journal
-    text_stays = ap text_of lines_stay
-
 -- no row of a journal: no verdict and no fault
 pub no_lines : (s : Setting) → settled_lines s.plan s.start [] s.show ≡ []
 unfolding settled_lines settled_model
 no_lines s = refl
-
-pub nothing_settled : (s : Setting) → settled_text s [] ≡ []
-unfolding settled_lines settled_model
-nothing_settled s = refl
 
 pub nothing_final : (s : Setting) → verdicts s [] ≡ []
 unfolding final_lines whole_model

@@ -1,5 +1,5 @@
 pub mod Sinks
-pub mod Entries
+pub mod EntriesTold
 pub mod Fronts
 pub mod Taking
 pub mod TextsBehind
@@ -12,7 +12,8 @@ pub mod Counting
 pub mod Stepping
 pub mod Runs
 pub mod Closing
-pub mod ClosingBehind
-pub mod Anew
+pub mod Writing
 pub mod Rounding
 pub mod Beginning
+mod Handed
+mod Orders

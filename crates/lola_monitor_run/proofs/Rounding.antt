@@ -39,6 +39,16 @@ or_false : (b : Bool) → b || false ≡ b
 or_false true = refl
 or_false false = refl
 
+-- before the first turn of a round
+pub round_begins : (now : World) → InRound 0 false now now
+round_begins now = record {
+  so_far = λ first n so. so;
+  many = refl;
+  no_more = omega arith;
+  fell = λ is. absurd (cc is);
+  quiet = λ is s source less there. absurd (omega arith);
+}
+
 module _ (k : ℕ) (moved : Bool) (old now : World) (i : InRound k moved old now) (there : k < length now.sources) where
   within : (first : World) (n : ℕ) → SoFar first n k now → k < length first.sources
   within first n so = subst (λ m. k < m) so.drawn.fed.many there

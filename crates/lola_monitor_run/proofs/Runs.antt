@@ -11,22 +11,18 @@ use Rattle.lola_model.specs.declared.journal.Entry.{Entry}
 use Rattle.lola_model.proofs.Journals.{trace_text-append_one}
 use Rattle.lola_engine.specs.Engines.{Brings}
 use Rattle.lola_monitor_run.specs.Verdicts.{AreTraceable, Setting, settled_fault_in}
-use Rattle.lola_monitor_run.specs.Running.{IsAccepted, IsGoing, IsSetAs, Keeping, Stands, setting_in}
+use Rattle.lola_monitor_run.specs.Running.{IsAccepted, IsGoing, IsSetAs, Keeping, setting_in}
 use Rattle.lola_monitor_run.specs.declared.stop.Stop.{Stop}
 use Rattle.lola_monitor_run.specs.declared.stop.Stop.TheVariants as stop
-use Rattle.lola_monitor_run.specs.Feeds.{GoInRounds, HaveEnded, IsSound, RanToEnd, Supply, World}
-use Rattle.lola_monitor_run.specs.Behind.{AtFirst, Beginning, CameBehind, Following, HasTakenNone, IsBehind, IsRowFaultBehind, RanOutOfMemoryBehind, RanToCutFaultBehind, RanToEndBehind, RanToFailedPutBehind, RanToFaultBehind, RanToRowCutBehind, RanToTraceCutBehind, RunsBehind, StandsFrom, front_of, settled_behind}
+use Rattle.lola_monitor_run.specs.Feeds.{GoInRounds, HaveEnded, IsSound, Supply, World}
+use Rattle.lola_monitor_run.specs.Behind.{CameBehind, HasTakenNone, IsBehind, IsRowFaultBehind, RanOutOfMemoryBehind, RanToCutFaultBehind, RanToEndBehind, RanToFailedPutBehind, RanToFaultBehind, RanToRowCutBehind, RanToTraceCutBehind, RunsBehind, settled_behind}
 use Rattle.lola_monitor_run.specs.Turning.{Drawn, NotTraced, OutCut, OutKept, Passed, RunsOn, SawCutFault, SawFault, SoFar, Stepped, Steps, StopsFrom, Touched, TraceCut, Traced}
-use Rattle.lola_monitor_run.proofs.Entries.{BringsIn, accepted_is, told_more}
+use Rattle.lola_monitor_run.proofs.EntriesTold.{BringsIn, accepted_is, told_more}
 use Rattle.lola_monitor_run.proofs.Sinks.{broke_behind, grown_nil, more_text}
-use Rattle.lola_monitor_run.proofs.Taking.{accepted_append, engine_fine, late_append, legal_more, no_fewer_lines, stands_first}
-use Rattle.lola_monitor_run.proofs.TextsBehind.{HasAll, all_put_behind, cut_at_row_behind, has_all_more, last_not_put_behind, nothing_behind, settled_first, settled_more}
+use Rattle.lola_monitor_run.proofs.Taking.{accepted_append, late_append, legal_more, no_fewer_lines}
+use Rattle.lola_monitor_run.proofs.TextsBehind.{HasAll, all_put_behind, cut_at_row_behind, has_all_more, last_not_put_behind, nothing_behind, settled_more}
 use Rattle.lola_monitor_run.proofs.Drawing.{drawn_none, draws, round_drawn, sits}
 use Rattle.lola_monitor_run.proofs.Going.{begun, in_rounds, touched_in_rounds}
-
--- a run that stands for the empty journal has counted no entry
-pub none_taken : (kept : Keeping) → Stands [] kept → HasTakenNone kept
-none_taken kept stands = let rows = stands.engine.rows in record { going = stands.going; accepted = stands.accepted; late = stands.late; rows = omega (arith, rows) }
 
 -- a run has begun, or begins to go on
 pub started : (first : World) → length first.sources ≤ 64 → HasTakenNone first.kept
@@ -42,8 +38,8 @@ started first few fresh none = record {
   rows = omega (arith, fresh.rows);
   late = fresh.late;
   accepted = fresh.accepted;
-  stands = λ b stands. subst (λ (j : List Entry). StandsFrom b j first.kept) (sym (append-nil (front_of b))) stands;
-  out = λ b stands. sym (grown_nil first.out) ∙ ap (grown first.out) (sym (nothing_behind (setting_in first.kept) (front_of b)));
+  stands = λ before stands. subst (λ (j : List Entry). IsBehind before j first.kept) (sym (append-nil before)) stands;
+  out = λ before stands. sym (grown_nil first.out) ∙ ap (grown first.out) (sym (nothing_behind (setting_in first.kept) before));
 }
 
 -- a journal that is legal for a run is so for what the run was made for
@@ -51,15 +47,15 @@ legal_first : (first now : World) (journal : List Entry) → IsSetAs first.kept 
 legal_first first now journal setting legal = subst (λ (o : Option ℕ). IsLegal o journal) (ap (λ (s : Setting). s.start) setting) legal
 
 -- what a run stands for at first, whatever it is
-module _ (first now : World) (setting : IsSetAs first.kept now.kept) (b : Beginning) (journal : List Entry) (stands : StandsFrom b (front_of b ++ journal) now.kept) where
-  pub legal_now : IsLegal first.kept.state.given_start (front_of b ++ journal)
-  legal_now = legal_first first now (front_of b ++ journal) setting stands.legal
+module _ (first now : World) (setting : IsSetAs first.kept now.kept) (before journal : List Entry) (stands : IsBehind before (before ++ journal) now.kept) where
+  pub legal_now : IsLegal first.kept.state.given_start (before ++ journal)
+  legal_now = legal_first first now (before ++ journal) setting stands.legal
 
-  pub fine_now : settled_fault_in (setting_in first.kept) (front_of b ++ journal) ≡ None
-  fine_now = ap (λ (s : Setting). settled_fault_in s (front_of b ++ journal)) (sym setting) ∙ engine_fine b (front_of b ++ journal) now.kept stands.engine
+  pub fine_now : settled_fault_in (setting_in first.kept) (before ++ journal) ≡ None
+  fine_now = ap (λ (s : Setting). settled_fault_in s (before ++ journal)) (sym setting) ∙ stands.engine.fine
 
-  pub all_now : HasAll (setting_in first.kept) (front_of b) journal
-  all_now = subst (λ (s : Setting). HasAll s (front_of b) journal) setting (no_fewer_lines b (front_of b ++ journal) now.kept stands.engine)
+  pub all_now : HasAll (setting_in first.kept) before journal
+  all_now = subst (λ (s : Setting). HasAll s before journal) setting (no_fewer_lines before (before ++ journal) now.kept stands)
 
 module _ (first : World) (n k : ℕ) (now next : World) (within : k < length first.sources) (so : SoFar first n k now) (entry : Entry) (traced : Traced k entry now next) where
   -- all of the journal with the entry was drawn and traced
@@ -75,35 +71,35 @@ module _ (first : World) (n k : ℕ) (now next : World) (within : k < length fir
   pub trace_is : next.trace ≡ grown first.trace (trace_text (so.journal ++ entry ∷ []))
   trace_is = more_text _ _ _ _ _ _ so.trace traced.trace (trace_text-append_one so.journal entry)
 
-  module _ (b : Beginning) (stood : StandsFrom b (front_of b) first.kept) where
+  module _ (before : List Entry) (stood : IsBehind before before first.kept) where
     -- it is legal
-    legal_is : IsLegal first.kept.state.given_start (front_of b ++ (so.journal ++ entry ∷ []))
+    legal_is : IsLegal first.kept.state.given_start (before ++ (so.journal ++ entry ∷ []))
     legal_is =
-        legal_first first now (front_of b ++ (so.journal ++ entry ∷ [])) so.setting
-        (subst (λ (j : List Entry). IsLegal now.kept.state.given_start j) (append_assoc (front_of b) so.journal (entry ∷ [])) (legal_more b (front_of b ++ so.journal) entry now.kept (so.stands b stood) traced.mark))
+        legal_first first now (before ++ (so.journal ++ entry ∷ [])) so.setting
+        (subst (λ (j : List Entry). IsLegal now.kept.state.given_start j) (append_assoc before so.journal (entry ∷ [])) (legal_more before (before ++ so.journal) entry now.kept (so.stands before stood) traced.mark))
 
-    module _ (lines : List (List ℕ)) (brings : Brings now.kept.state (front_of b ++ so.journal) entry lines) where
-      brings_is : BringsIn (setting_in first.kept) (front_of b ++ so.journal) entry lines
-      brings_is = subst (λ (s : Setting). BringsIn s (front_of b ++ so.journal) entry lines) so.setting brings
+    module _ (lines : List (List ℕ)) (brings : Brings now.kept.state (before ++ so.journal) entry lines) where
+      brings_is : BringsIn (setting_in first.kept) (before ++ so.journal) entry lines
+      brings_is = subst (λ (s : Setting). BringsIn s (before ++ so.journal) entry lines) so.setting brings
 
-      text_is : settled_behind (setting_in first.kept) (front_of b) (so.journal ++ entry ∷ []) ≡ settled_behind (setting_in first.kept) (front_of b) so.journal ++ text_of lines
-      text_is = settled_more (setting_in first.kept) (front_of b) so.journal entry lines brings_is (all_now first now so.setting b so.journal (so.stands b stood))
+      text_is : settled_behind (setting_in first.kept) before (so.journal ++ entry ∷ []) ≡ settled_behind (setting_in first.kept) before so.journal ++ text_of lines
+      text_is = settled_more (setting_in first.kept) before so.journal entry lines brings_is (all_now first now so.setting before so.journal (so.stands before stood))
 
-      all_is : HasAll (setting_in first.kept) (front_of b) (so.journal ++ entry ∷ [])
-      all_is = has_all_more (setting_in first.kept) (front_of b) so.journal entry lines brings_is (all_now first now so.setting b so.journal (so.stands b stood))
+      all_is : HasAll (setting_in first.kept) before (so.journal ++ entry ∷ [])
+      all_is = has_all_more (setting_in first.kept) before so.journal entry lines brings_is (all_now first now so.setting before so.journal (so.stands before stood))
 
     -- the journal of a row's fault, and its verdicts, are said of front and journal
-    fault_is : (fault : RunFault) → settled_fault_in (setting_in now.kept) ((front_of b ++ so.journal) ++ entry ∷ []) ≡ Some fault → settled_fault_in (setting_in first.kept) (front_of b ++ (so.journal ++ entry ∷ [])) ≡ Some fault
+    fault_is : (fault : RunFault) → settled_fault_in (setting_in now.kept) ((before ++ so.journal) ++ entry ∷ []) ≡ Some fault → settled_fault_in (setting_in first.kept) (before ++ (so.journal ++ entry ∷ [])) ≡ Some fault
     fault_is fault is =
-        ap (settled_fault_in (setting_in first.kept)) (sym (append_assoc (front_of b) so.journal (entry ∷ [])))
-        ∙ (ap (λ (s : Setting). settled_fault_in s ((front_of b ++ so.journal) ++ entry ∷ [])) (sym so.setting) ∙ is)
+        ap (settled_fault_in (setting_in first.kept)) (sym (append_assoc before so.journal (entry ∷ [])))
+        ∙ (ap (λ (s : Setting). settled_fault_in s ((before ++ so.journal) ++ entry ∷ [])) (sym so.setting) ∙ is)
 
-    none_is : settled_fault_in (setting_in now.kept) ((front_of b ++ so.journal) ++ entry ∷ []) ≡ None → settled_fault_in (setting_in first.kept) (front_of b ++ (so.journal ++ entry ∷ [])) ≡ None
+    none_is : settled_fault_in (setting_in now.kept) ((before ++ so.journal) ++ entry ∷ []) ≡ None → settled_fault_in (setting_in first.kept) (before ++ (so.journal ++ entry ∷ [])) ≡ None
     none_is is =
-        ap (settled_fault_in (setting_in first.kept)) (sym (append_assoc (front_of b) so.journal (entry ∷ [])))
-        ∙ (ap (λ (s : Setting). settled_fault_in s ((front_of b ++ so.journal) ++ entry ∷ [])) (sym so.setting) ∙ is)
+        ap (settled_fault_in (setting_in first.kept)) (sym (append_assoc before so.journal (entry ∷ [])))
+        ∙ (ap (λ (s : Setting). settled_fault_in s ((before ++ so.journal) ++ entry ∷ [])) (sym so.setting) ∙ is)
 
-    abbrev came_on : CameBehind true (front_of b) first next
+    abbrev came_on : CameBehind true before first next
     came_on = record { journal = so.journal ++ entry ∷ []; legal = legal_is; sources = drawn_is.of_sources; traceable = told_is; rounds = λ turns. rounds_are }
 
 module _ (first : World) (n k : ℕ) (now next : World) (within : k < length first.sources) (so : SoFar first n k now) where
@@ -123,10 +119,10 @@ module _ (first : World) (n k : ℕ) (now next : World) (within : k < length fir
         rows = omega (arith, taken.rows, so.rows, more);
         late = omega (arith, taken.late, so.late, later);
         accepted = omega (arith, taken.accepted, so.accepted, more);
-        stands = λ b stood. subst (λ (j : List Entry). StandsFrom b j next.kept) (append_assoc (front_of b) so.journal (step.entry ∷ [])) (step.runs b (front_of b ++ so.journal) (so.stands b stood)).stands;
-        out = λ b stood.
-            let after = step.runs b (front_of b ++ so.journal) (so.stands b stood) in
-            more_text _ _ _ _ _ _ (so.out b stood) after.out (text_is first n k now next within so step.entry step.traced b stood after.lines after.brings);
+        stands = λ before stood. subst (λ (j : List Entry). IsBehind before j next.kept) (append_assoc before so.journal (step.entry ∷ [])) (step.runs before (before ++ so.journal) (so.stands before stood)).stands;
+        out = λ before stood.
+            let after = step.runs before (before ++ so.journal) (so.stands before stood) in
+            more_text _ _ _ _ _ _ (so.out before stood) after.out (text_is first n k now next within so step.entry step.traced before stood after.lines after.brings);
       }
 
   passes_on : Passed k now next → SoFar first n (suc k) next
@@ -141,8 +137,8 @@ module _ (first : World) (n k : ℕ) (now next : World) (within : k < length fir
     rows = subst (λ (kept : Keeping). kept.state.rows ≤ length (accepted so.journal) + 1) (sym p.only.kept) so.rows;
     late = ap (λ (kept : Keeping). kept.late) p.only.kept ∙ so.late;
     accepted = ap (λ (kept : Keeping). kept.accepted) p.only.kept ∙ so.accepted;
-    stands = λ b stood. subst (StandsFrom b (front_of b ++ so.journal)) (sym p.only.kept) (so.stands b stood);
-    out = λ b stood. p.only.out ∙ so.out b stood;
+    stands = λ before stood. subst (IsBehind before (before ++ so.journal)) (sym p.only.kept) (so.stands before stood);
+    out = λ before stood. p.only.out ∙ so.out before stood;
   }
 
   pub goes_on : (row : Bool) → Steps (Ok row) k now next → SoFar first n (suc k) next
@@ -167,87 +163,65 @@ next_begins first n now so = record {
 }
 
 -- all sources have ended
-module _ (first : World) (n : ℕ) (last : World) (so : SoFar first n 0 last) (ended : HaveEnded last.sources) where
-  -- of a run that began
-  pub ran_to_end : Stands [] first.kept → RanToEnd true first last
-  ran_to_end stood =
-      let stands = so.stands AtFirst (stands_first [] first.kept stood) in
-      record {
-        came = record {
-          journal = so.journal;
-          legal = legal_now first last so.setting AtFirst so.journal stands;
-          sources = so.drawn.of_sources;
-          traceable = so.traceable;
-          rounds = λ turns. in_rounds first n 0 last.sources so.journal (omega arith) so.drawn;
-        };
-        setting = so.setting;
-        fed = so.drawn.fed;
-        ended = ended;
-        trace = so.trace;
-        out = so.out AtFirst (stands_first [] first.kept stood) ∙ ap (grown first.out) (settled_first (setting_in first.kept) so.journal);
-        stands = record { legal = stands.legal; accepted = so.accepted; late = so.late; engine = stands.engine; going = so.going };
-      }
+pub ran_behind : (first : World) (n : ℕ) (last : World) → SoFar first n 0 last → HaveEnded last.sources → (before : List Entry) → IsBehind before before first.kept → RanToEndBehind true before first last
+ran_behind first n last so ended before stood =
+    let stands = so.stands before stood in
+    record {
+      came = record {
+        journal = so.journal;
+        legal = legal_now first last so.setting before so.journal stands;
+        sources = so.drawn.of_sources;
+        traceable = so.traceable;
+        rounds = λ turns. in_rounds first n 0 last.sources so.journal (omega arith) so.drawn;
+      };
+      setting = so.setting;
+      fed = so.drawn.fed;
+      ended = ended;
+      trace = so.trace;
+      out = so.out before stood;
+      stands = stands;
+      accepted = so.accepted;
+      late = so.late;
+    }
 
-  -- of one that went on behind others
-  pub ran_behind : (before : List Entry) → IsBehind before before first.kept → RanToEndBehind true before first last
-  ran_behind before stood =
-      let stands = so.stands (Following before) stood in
-      record {
-        came = record {
-          journal = so.journal;
-          legal = legal_now first last so.setting (Following before) so.journal stands;
-          sources = so.drawn.of_sources;
-          traceable = so.traceable;
-          rounds = λ turns. in_rounds first n 0 last.sources so.journal (omega arith) so.drawn;
-        };
-        setting = so.setting;
-        fed = so.drawn.fed;
-        ended = ended;
-        trace = so.trace;
-        out = so.out (Following before) stood;
-        stands = stands;
-        accepted = so.accepted;
-        late = so.late;
-      }
+-- all rows of a run
+pub all_rows : (result : Result (Unit {0}) Stop) (first last : World) → RunsOn result first last → (before : List Entry) → IsBehind before before first.kept → RunsBehind true before result first last
+all_rows (Ok done) first last ran before stood = ran_behind first ran.0.0 last ran.0.1 ran.1 before stood
+all_rows (Err how) first last ran before stood = ran before stood
 
--- all rows of a run that went on behind others
-pub all_rows_behind : (result : Result (Unit {0}) Stop) (first last : World) → RunsOn result first last → (before : List Entry) → IsBehind before before first.kept → RunsBehind true before result first last
-all_rows_behind (Ok done) first last ran before stood = ran_behind first ran.0.0 last ran.0.1 ran.1 before stood
-all_rows_behind (Err how) first last ran before stood = ran (Following before) stood
-
-module _ (first : World) (n k : ℕ) (now last : World) (within : k < length first.sources) (so : SoFar first n k now) (b : Beginning) (stood : StandsFrom b (front_of b) first.kept) where
+module _ (first : World) (n k : ℕ) (now last : World) (within : k < length first.sources) (so : SoFar first n k now) (before : List Entry) (stood : IsBehind before before first.kept) where
   -- the last row has a fault
   abbrev row_fault : (entry : Entry) (fault : RunFault) (traced : Traced k entry now last) (accepted : IsAccepted entry)
-      → settled_fault_in (setting_in now.kept) ((front_of b ++ so.journal) ++ entry ∷ []) ≡ Some fault → IsRowFaultBehind (setting_in first.kept) (front_of b) (so.journal ++ entry ∷ []) fault
+      → settled_fault_in (setting_in now.kept) ((before ++ so.journal) ++ entry ∷ []) ≡ Some fault → IsRowFaultBehind (setting_in first.kept) before (so.journal ++ entry ∷ []) fault
   row_fault entry fault traced accepted is = record {
     front = so.journal;
     row = entry.row;
     whole = ap (λ (e : Entry). so.journal ++ e ∷ []) (accepted_is entry accepted);
-    none_before = fine_now first now so.setting b so.journal (so.stands b stood);
-    settled = fault_is first n k now last within so entry traced b stood fault is;
+    none_before = fine_now first now so.setting before so.journal (so.stands before stood);
+    settled = fault_is first n k now last within so entry traced before stood fault is;
   }
 
-  fails : (fault : RunFault) → SawFault fault k now last → RanToFaultBehind true (front_of b) fault first last
+  fails : (fault : RunFault) → SawFault fault k now last → RanToFaultBehind true before fault first last
   fails fault saw =
-      let bad = saw.runs b (front_of b ++ so.journal) (so.stands b stood) in
+      let bad = saw.runs before (before ++ so.journal) (so.stands before stood) in
       record {
-        came = came_on first n k now last within so saw.entry saw.traced b stood;
+        came = came_on first n k now last within so saw.entry saw.traced before stood;
         begun = begun first.sources last.sources (so.journal ++ saw.entry ∷ []) (drawn_is first n k now last within so saw.entry saw.traced).fed;
         trace = trace_is first n k now last within so saw.entry saw.traced;
-        out = more_text _ _ _ _ _ _ (so.out b stood) bad.out (text_is first n k now last within so saw.entry saw.traced b stood bad.lines bad.brings);
+        out = more_text _ _ _ _ _ _ (so.out before stood) bad.out (text_is first n k now last within so saw.entry saw.traced before stood bad.lines bad.brings);
         stands = row_fault saw.entry fault saw.traced saw.accepted bad.is_fault;
       }
 
   -- the lines before a fault were cut short
-  fails_cut : (fault : RunFault) → SawCutFault fault k now last → RanToCutFaultBehind true (front_of b) fault first last
+  fails_cut : (fault : RunFault) → SawCutFault fault k now last → RanToCutFaultBehind true before fault first last
   fails_cut fault saw =
-      let bad = saw.runs b (front_of b ++ so.journal) (so.stands b stood) in
+      let bad = saw.runs before (before ++ so.journal) (so.stands before stood) in
       record {
-        came = came_on first n k now last within so saw.entry saw.traced b stood;
+        came = came_on first n k now last within so saw.entry saw.traced before stood;
         begun = begun first.sources last.sources (so.journal ++ saw.entry ∷ []) (drawn_is first n k now last within so saw.entry saw.traced).fed;
         trace = trace_is first n k now last within so saw.entry saw.traced;
-        out = subst (PutBroke first.out last.out) (sym (text_is first n k now last within so saw.entry saw.traced b stood bad.lines bad.brings))
-            (broke_behind first.out now.out last.out (settled_behind (setting_in first.kept) (front_of b) so.journal) (text_of bad.lines) (so.out b stood) bad.out);
+        out = subst (PutBroke first.out last.out) (sym (text_is first n k now last within so saw.entry saw.traced before stood bad.lines bad.brings))
+            (broke_behind first.out now.out last.out (settled_behind (setting_in first.kept) before so.journal) (text_of bad.lines) (so.out before stood) bad.out);
         stands = row_fault saw.entry fault saw.traced saw.accepted bad.is_fault;
       }
 
@@ -259,72 +233,72 @@ module _ (first : World) (n k : ℕ) (now last : World) (within : k < length fir
   rounds_cut (inr at) = touched_in_rounds first.sources now.sources last.sources k so.journal at.0 at.1 now_in_rounds
 
   -- the rows up to here, the last of which was not traced whole
-  abbrev came_here : (last.sources ≡ now.sources) ⊎ ((at : Touched k now.sources last.sources) × IsSound at.new) → CameBehind true (front_of b) first last
+  abbrev came_here : (last.sources ≡ now.sources) ⊎ ((at : Touched k now.sources last.sources) × IsSound at.new) → CameBehind true before first last
   came_here touched = record {
     journal = so.journal;
-    legal = legal_now first now so.setting b so.journal (so.stands b stood);
+    legal = legal_now first now so.setting before so.journal (so.stands before stood);
     sources = so.drawn.of_sources;
     traceable = so.traceable;
     rounds = λ turns. rounds_cut touched;
   }
 
-  trace_cut : TraceCut k now last → RanToTraceCutBehind true (front_of b) first last
+  trace_cut : TraceCut k now last → RanToTraceCutBehind true before first last
   trace_cut cut = record {
     came = came_here (inr (cut.at, cut.sound));
     begun = begun first.sources now.sources so.journal so.drawn.fed;
-    no_fault = fine_now first now so.setting b so.journal (so.stands b stood);
+    no_fault = fine_now first now so.setting before so.journal (so.stands before stood);
     trace = record {
       entry = cut.entry;
       traceable = subst (λ (s : Setting). IsTraceable s.plan cut.entry) so.setting cut.traceable;
       cut = subst (λ (t : SinkState). PutBroke t last.trace (trace_line cut.entry)) so.trace cut.trace;
     };
-    out = cut.out ∙ so.out b stood;
+    out = cut.out ∙ so.out before stood;
   }
 
-  row_cut : OutCut k now last → RanToRowCutBehind true (front_of b) first last
+  row_cut : OutCut k now last → RanToRowCutBehind true before first last
   row_cut cut =
-      let c = cut.runs b (front_of b ++ so.journal) (so.stands b stood) in
+      let c = cut.runs before (before ++ so.journal) (so.stands before stood) in
       record {
-        came = came_on first n k now last within so cut.entry cut.traced b stood;
+        came = came_on first n k now last within so cut.entry cut.traced before stood;
         begun = begun first.sources last.sources (so.journal ++ cut.entry ∷ []) (drawn_is first n k now last within so cut.entry cut.traced).fed;
-        no_fault = none_is first n k now last within so cut.entry cut.traced b stood c.fine;
+        no_fault = none_is first n k now last within so cut.entry cut.traced before stood c.fine;
         trace = trace_is first n k now last within so cut.entry cut.traced;
-        out = cut_at_row_behind (setting_in first.kept) (front_of b) so.journal cut.entry (text_of c.lines) first.out now.out last.out (all_is first n k now last within so cut.entry cut.traced b stood c.lines c.brings) cut.accepted
-            (text_is first n k now last within so cut.entry cut.traced b stood c.lines c.brings) (so.out b stood) c.out;
+        out = cut_at_row_behind (setting_in first.kept) before so.journal cut.entry (text_of c.lines) first.out now.out last.out (all_is first n k now last within so cut.entry cut.traced before stood c.lines c.brings) cut.accepted
+            (text_is first n k now last within so cut.entry cut.traced before stood c.lines c.brings) (so.out before stood) c.out;
       }
 
-  not_traced : NotTraced k now last → RanOutOfMemoryBehind true (front_of b) first last
+  not_traced : NotTraced k now last → RanOutOfMemoryBehind true before first last
   not_traced none = record {
     came = came_here none.touched;
     begun = begun first.sources now.sources so.journal so.drawn.fed;
     trace = none.trace ∙ so.trace;
-    out = all_put_behind (setting_in first.kept) (front_of b) so.journal first.out last.out (all_now first now so.setting b so.journal (so.stands b stood)) (none.out ∙ so.out b stood);
+    out = all_put_behind (setting_in first.kept) before so.journal first.out last.out (all_now first now so.setting before so.journal (so.stands before stood)) (none.out ∙ so.out before stood);
   }
 
-  not_put : OutKept k now last → RanOutOfMemoryBehind true (front_of b) first last
+  not_put : OutKept k now last → RanOutOfMemoryBehind true before first last
   not_put kept =
-      let c = kept.runs b (front_of b ++ so.journal) (so.stands b stood) in
+      let c = kept.runs before (before ++ so.journal) (so.stands before stood) in
       record {
-        came = came_on first n k now last within so kept.entry kept.traced b stood;
+        came = came_on first n k now last within so kept.entry kept.traced before stood;
         begun = begun first.sources last.sources (so.journal ++ kept.entry ∷ []) (drawn_is first n k now last within so kept.entry kept.traced).fed;
         trace = trace_is first n k now last within so kept.entry kept.traced;
-        out = last_not_put_behind (setting_in first.kept) (front_of b) so.journal kept.entry (text_of c.lines) first.out last.out (all_is first n k now last within so kept.entry kept.traced b stood c.lines c.brings)
-            (text_is first n k now last within so kept.entry kept.traced b stood c.lines c.brings) (c.out ∙ so.out b stood);
+        out = last_not_put_behind (setting_in first.kept) before so.journal kept.entry (text_of c.lines) first.out last.out (all_is first n k now last within so kept.entry kept.traced before stood c.lines c.brings)
+            (text_is first n k now last within so kept.entry kept.traced before stood c.lines c.brings) (c.out ∙ so.out before stood);
       }
 
-  put_fault : TraceCut k now last ⊎ OutCut k now last → RanToFailedPutBehind true (front_of b) first last
+  put_fault : TraceCut k now last ⊎ OutCut k now last → RanToFailedPutBehind true before first last
   put_fault (inl cut) = inl (trace_cut cut)
   put_fault (inr cut) = inr (row_cut cut)
 
-  out_of_memory : NotTraced k now last ⊎ OutKept k now last → RanOutOfMemoryBehind true (front_of b) first last
+  out_of_memory : NotTraced k now last ⊎ OutKept k now last → RanOutOfMemoryBehind true before first last
   out_of_memory (inl none) = not_traced none
   out_of_memory (inr kept) = not_put kept
 
-  stops_from : (how : Stop) → Steps (Err how) k now last → RunsBehind true (front_of b) (Err how) first last
+  stops_from : (how : Stop) → Steps (Err how) k now last → RunsBehind true before (Err how) first last
   stops_from (stop.Fault stream kind time) saw = fails (record { stream = stream; kind = kind; time = time }) saw
   stops_from (stop.CutFault stream kind time) saw = fails_cut (record { stream = stream; kind = kind; time = time }) saw
   stops_from stop.Put saw = put_fault saw
   stops_from stop.Memory saw = out_of_memory saw
 
 pub stops : (first : World) (n k : ℕ) (now last : World) → k < length first.sources → SoFar first n k now → (how : Stop) → Steps (Err how) k now last → StopsFrom how first last
-stops first n k now last within so how step b stood = stops_from first n k now last within so b stood how step
+stops first n k now last within so how step before stood = stops_from first n k now last within so before stood how step

@@ -11,8 +11,8 @@ use Rattle.lola_feed.specs.declared.worker.SourceEnd.TheVariants as end
 use Rattle.lola_feed.specs.declared.worker.TurnEnd.{TurnEnd}
 use Rattle.lola_feed.specs.declared.worker.TurnEnd.TheVariants as turn
 use Rattle.lola_monitor_run.specs.Verdicts.{Setting}
-use Rattle.lola_monitor_run.specs.Running.{Enters, IsNext, IsSetAs, Keeping, Puts, Takes, WasNotTraced, WasTraced}
-use Rattle.lola_monitor_run.specs.Behind.{EntersFrom, HasTaken, TakesFromAny}
+use Rattle.lola_monitor_run.specs.Running.{IsNext, IsSetAs, Keeping, Puts, WasNotTraced}
+use Rattle.lola_monitor_run.specs.Behind.{Enters, HasTaken, Takes, WasTraced}
 use Rattle.lola_monitor_run.specs.declared.stop.Stop.{Stop}
 use Rattle.lola_monitor_run.specs.declared.stop.Stop.TheVariants as stop
 use Rattle.lola_monitor_run.specs.Feeds.{Feeding, IsIdle, IsSound, Supply, supplies_of, world}
@@ -37,12 +37,12 @@ module _ (k0 : Keeping) (o0 t0 : SinkState) (entry : Entry) (mark : IsNext k0 en
     abbrev traced : Traced s entry (world k0 olds o0 t0) (world k1 news o1 t1)
     traced = record { took = took; mark = mark; traceable = told; trace = trace }
 
-    stepped : (result : Result (Unit {0}) Stop) → Takes result entry k0 k1 o0 o1 → TakesFromAny result entry k0 k1 o0 o1 → OnOk result (HasTaken entry k0 k1) → RunsTaken result s (world k0 olds o0 t0) (world k1 news o1 t1)
-    stepped (Ok done) takes from taken = record { entry = entry; traced = traced; setting = takes.1; taken = taken; runs = from }
-    stepped (Err (stop.Fault stream kind time)) takes from taken = record { entry = entry; traced = traced; accepted = takes.1; runs = from }
-    stepped (Err (stop.CutFault stream kind time)) takes from taken = record { entry = entry; traced = traced; accepted = takes.1; runs = from }
-    stepped (Err stop.Put) takes from taken = inr (record { entry = entry; traced = traced; accepted = takes.1; runs = from })
-    stepped (Err stop.Memory) takes from taken = inr (record { entry = entry; traced = traced; runs = from })
+    stepped : (result : Result (Unit {0}) Stop) → Takes result entry k0 k1 o0 o1 → OnOk result (HasTaken entry k0 k1) → IsSetAs k0 k1 → RunsTaken result s (world k0 olds o0 t0) (world k1 news o1 t1)
+    stepped (Ok done) takes taken setting = record { entry = entry; traced = traced; setting = setting; taken = taken; runs = takes }
+    stepped (Err (stop.Fault stream kind time)) takes taken setting = record { entry = entry; traced = traced; accepted = takes.1; runs = takes.0 }
+    stepped (Err (stop.CutFault stream kind time)) takes taken setting = record { entry = entry; traced = traced; accepted = takes.1; runs = takes.0 }
+    stepped (Err stop.Put) takes taken setting = inr (record { entry = entry; traced = traced; accepted = takes.1; runs = takes.0 })
+    stepped (Err stop.Memory) takes taken setting = inr (record { entry = entry; traced = traced; runs = takes })
 
 -- a row was taken, and its entry was to be traced and run
 module _ (k0 k1 : Keeping) (o0 o1 t0 t1 : SinkState) (entry : Entry) (mark : IsNext k0 entry) (s : ℕ) (olds news : List Supply) (took : TookRow k0.state.plan s entry.row olds news) (result : Result (Unit {0}) Stop) where
@@ -52,13 +52,12 @@ module _ (k0 k1 : Keeping) (o0 o1 t0 t1 : SinkState) (entry : Entry) (mark : IsN
       (subst (λ (k : Keeping). RunsTaken (Err n.how) s (world k0 olds o0 t0) (world k news o1 t1)) (sym n.kept)
       (subst (λ (o : SinkState). RunsTaken (Err n.how) s (world k0 olds o0 t0) (world k0 news o t1)) (sym n.out) (not_traced k0 o0 t0 entry mark told s olds news took t1 n.how n.puts)))
 
-  pub entered : Enters result entry k0 k1 o0 o1 t0 t1 → EntersFrom result entry k0 k1 o0 o1 t0 t1 → OnOk result (HasTaken entry k0 k1) → RunsTaken result s (world k0 olds o0 t0) (world k1 news o1 t1)
-  entered e from taken = by_both e.does from
+  pub entered : Enters result entry k0 k1 o0 o1 t0 t1 → OnOk result (HasTaken entry k0 k1) → IsSetAs k0 k1 → RunsTaken result s (world k0 olds o0 t0) (world k1 news o1 t1)
+  entered e taken setting = by_both e.does
     where
-      by_both : WasNotTraced result entry k0 k1 o0 o1 t0 t1 ⊎ WasTraced result entry k0 k1 o0 o1 t0 t1 → EntersFrom result entry k0 k1 o0 o1 t0 t1 → RunsTaken result s (world k0 olds o0 t0) (world k1 news o1 t1)
-      by_both (inl n) f = was_not_traced e.told n
-      by_both (inr w) (inl n) = was_not_traced e.told n
-      by_both (inr w) (inr f) = stepped k0 o0 t0 entry mark e.told s olds news took k1 o1 t1 w.trace result w.takes f.takes taken
+      by_both : WasNotTraced result entry k0 k1 o0 o1 t0 t1 ⊎ WasTraced result entry k0 k1 o0 o1 t0 t1 → RunsTaken result s (world k0 olds o0 t0) (world k1 news o1 t1)
+      by_both (inl n) = was_not_traced e.told n
+      by_both (inr w) = stepped k0 o0 t0 entry mark e.told s olds news took k1 o1 t1 w.trace result w.takes taken setting
 
 module _ (s : ℕ) (old mid new : Feeding) (kept : Keeping) (idle : IsIdle old kept) (answer : TurnEnd) (t : TookTurn s answer old mid) where
   -- there was no memory for a row

@@ -11,7 +11,7 @@ use Rattle.lola_model.proofs.Journals.{text_of-append}
 use Rattle.lola_monitor_run.specs.Verdicts.{Setting, settled_fault_in, settled_text, verdicts}
 use Rattle.lola_monitor_run.specs.Running.{IsAccepted}
 use Rattle.lola_monitor_run.specs.Behind.{HasFrontBehind, IsCutAtRowBehind, settled_behind, text_behind, verdicts_behind}
-use Rattle.lola_monitor_run.proofs.Entries.{BringsIn, accepted_is}
+use Rattle.lola_monitor_run.proofs.EntriesTold.{BringsIn, accepted_is}
 use Rattle.lola_monitor_run.proofs.Fronts.{lines_front, lines_stay, no_lines}
 
 module _ (s : Setting) where

@@ -5,42 +5,23 @@ use Rattle.lola_model.specs.Journal.{IsLegal, accepted, time_after}
 use Rattle.lola_model.specs.Faults.{RunFault}
 use Rattle.lola_model.specs.Runs.{final_lines, settled_lines, settled_model, whole_model}
 use Rattle.lola_model.specs.Texts.{text_of}
-use Rattle.lola_model.specs.Trace.{trace_line}
+use Rattle.lola_model.specs.Trace.{IsTraceable, trace_line}
 use Rattle.lola_model.specs.declared.journal.Row.{Row}
 use Rattle.lola_model.specs.declared.journal.Entry.{Entry}
 use Rattle.lola_model.specs.declared.journal.Mark.TheVariants as mark
 use Rattle.lola_instances.specs.Stores.{bounded_remembers, bounded_seen}
 use Rattle.lola_engine.specs.Behind.{StandsBehind}
-use Rattle.lola_engine.specs.Engines.{Brings, Completes, StandsFor}
+use Rattle.lola_engine.specs.Engines.{Brings, Completes}
 use Rattle.lola_monitor_run.specs.Verdicts.{AreOfSources, AreTraceable, IsCutInLine, Setting, fault_in, late_count, settled_fault_in}
-use Rattle.lola_monitor_run.specs.Running.{ClosedByFault, CutClose, CutFaultNext, CutNext, FaultNext, IsGoing, IsSetAs, Keeping, KeptNext, WasNotTraced, setting_in}
+use Rattle.lola_monitor_run.specs.Running.{ClosedByFault, CutClose, CutFaultNext, CutNext, FaultNext, IsAccepted, IsGoing, IsSetAs, Keeping, KeptNext, WasNotTraced, setting_in}
 use Rattle.lola_monitor_run.specs.Feeds.{AreFed, AreTraced, GoInRounds, HaveBegun, HaveEnded, World}
 use Rattle.lola_monitor_run.specs.declared.stop.Stop.{Stop}
 use Rattle.lola_monitor_run.specs.declared.stop.Stop.TheVariants as stop
 
--- how the journal of a run begins: with its own first row, or with rows that other runs had taken
-pub data Beginning : Type 0 where
-  AtFirst : Beginning
-  Following : (before : List Entry) → Beginning
-
--- the rows that other runs had taken
-abbrev pub front_of : Beginning → List Entry
-front_of AtFirst = []
-front_of (Following before) = before
-
--- the engine of a run stands for a journal that begins so
-abbrev pub EngineFrom : Beginning → List Entry → Keeping → Type 0
-EngineFrom AtFirst journal kept = StandsFor kept.state (bounded_seen kept.store) (bounded_remembers kept.store) journal
-EngineFrom (Following before) journal kept = StandsBehind kept.state (bounded_seen kept.store) (bounded_remembers kept.store) before journal
-
--- the entries of a journal that begins so were taken, and no step so far has a fault
-pub record StandsFrom (b : Beginning) (journal : List Entry) (kept : Keeping) : Type 0 where
+-- other runs had taken a front of a journal, and this one what came since: no step so far has a fault
+pub record IsBehind (before journal : List Entry) (kept : Keeping) : Type 0 where
   pub legal : IsLegal kept.state.given_start journal
-  pub engine : EngineFrom b journal kept
-
--- other runs had taken a front of a journal, and this one what came since
-abbrev pub IsBehind : List Entry → List Entry → Keeping → Type 0
-IsBehind before journal kept = StandsFrom (Following before) journal kept
+  pub engine : StandsBehind kept.state (bounded_seen kept.store) (bounded_remembers kept.store) before journal
 
 -- a run goes on, and has counted no entry of its own
 pub record HasTakenNone (kept : Keeping) : Type 0 where
@@ -58,35 +39,32 @@ pub record HasTaken (entry : Entry) (old new : Keeping) : Type 0 where
   pub accepted : new.accepted ≡ old.accepted + length (accepted (entry ∷ []))
 
 -- an entry was run without a fault: the run stands for one entry more
-pub record NextFrom (b : Beginning) (journal : List Entry) (entry : Entry) (old new : Keeping) (out0 out1 : SinkState) : Type 0 where
-  pub stands : StandsFrom b (journal ++ entry ∷ []) new
+pub record NextBehind (before journal : List Entry) (entry : Entry) (old new : Keeping) (out0 out1 : SinkState) : Type 0 where
+  pub stands : IsBehind before (journal ++ entry ∷ []) new
   pub lines : List (List ℕ)
   pub brings : Brings old.state journal entry lines
   pub out : out1 ≡ grown out0 (text_of lines)
 
--- an entry was run, or its fault was met, or its lines were not put, whatever journal the run stands for
-abbrev pub TakesFrom : Beginning → Result (Unit {0}) Stop → Entry → Keeping → Keeping → SinkState → SinkState → Type 0
-TakesFrom b (Ok done) entry old new out0 out1 = (journal : List Entry) → StandsFrom b journal old → NextFrom b journal entry old new out0 out1
-TakesFrom b (Err (stop.Fault stream kind time)) entry old new out0 out1 =
-    (journal : List Entry) → StandsFrom b journal old → FaultNext (record { stream = stream; kind = kind; time = time }) journal entry old out0 out1
-TakesFrom b (Err (stop.CutFault stream kind time)) entry old new out0 out1 =
-    (journal : List Entry) → StandsFrom b journal old → CutFaultNext (record { stream = stream; kind = kind; time = time }) journal entry old out0 out1
-TakesFrom b (Err stop.Put) entry old new out0 out1 = (journal : List Entry) → StandsFrom b journal old → CutNext journal entry old out0 out1
-TakesFrom b (Err stop.Memory) entry old new out0 out1 = (journal : List Entry) → StandsFrom b journal old → KeptNext journal entry old out0 out1
-
--- however the journal begins
-abbrev pub TakesFromAny : Result (Unit {0}) Stop → Entry → Keeping → Keeping → SinkState → SinkState → Type 0
-TakesFromAny result entry old new out0 out1 = (b : Beginning) → TakesFrom b result entry old new out0 out1
+-- an entry was run, or its fault was met, or its lines were not put, whatever journal the run stands for and whatever front of it others had
+-- taken
+abbrev pub Takes : Result (Unit {0}) Stop → Entry → Keeping → Keeping → SinkState → SinkState → Type 0
+Takes (Ok done) entry old new out0 out1 = (before journal : List Entry) → IsBehind before journal old → NextBehind before journal entry old new out0 out1
+Takes (Err (stop.Fault stream kind time)) entry old new out0 out1 =
+    ((before journal : List Entry) → IsBehind before journal old → FaultNext (record { stream = stream; kind = kind; time = time }) journal entry old out0 out1) × IsAccepted entry
+Takes (Err (stop.CutFault stream kind time)) entry old new out0 out1 =
+    ((before journal : List Entry) → IsBehind before journal old → CutFaultNext (record { stream = stream; kind = kind; time = time }) journal entry old out0 out1) × IsAccepted entry
+Takes (Err stop.Put) entry old new out0 out1 = ((before journal : List Entry) → IsBehind before journal old → CutNext journal entry old out0 out1) × IsAccepted entry
+Takes (Err stop.Memory) entry old new out0 out1 = (before journal : List Entry) → IsBehind before journal old → KeptNext journal entry old out0 out1
 
 -- the line of an entry was put, and the entry was run
-pub record WasTracedFrom (result : Result (Unit {0}) Stop) (entry : Entry) (old new : Keeping) (out0 out1 trace0 trace1 : SinkState) : Type 0 where
+pub record WasTraced (result : Result (Unit {0}) Stop) (entry : Entry) (old new : Keeping) (out0 out1 trace0 trace1 : SinkState) : Type 0 where
   pub trace : trace1 ≡ grown trace0 (trace_line entry)
-  pub takes : TakesFromAny result entry old new out0 out1
+  pub takes : Takes result entry old new out0 out1
 
--- what becomes of an entry that is to be traced and run
-abbrev pub EntersFrom : Result (Unit {0}) Stop → Entry → Keeping → Keeping → SinkState → SinkState → SinkState → SinkState → Type 0
-EntersFrom result entry old new out0 out1 trace0 trace1 =
-    WasNotTraced result entry old new out0 out1 trace0 trace1 ⊎ WasTracedFrom result entry old new out0 out1 trace0 trace1
+-- what becomes of an entry that is to be traced and run; a line can tell it
+pub record Enters (result : Result (Unit {0}) Stop) (entry : Entry) (old new : Keeping) (out0 out1 trace0 trace1 : SinkState) : Type 0 where
+  pub told : IsTraceable old.state.plan entry
+  pub does : WasNotTraced result entry old new out0 out1 trace0 trace1 ⊎ WasTraced result entry old new out0 out1 trace0 trace1
 
 -- the deadlines at the last stamp were run: all behind the front is counted, and their lines put
 pub record ClosedBehind (before journal : List Entry) (old new : Keeping) (out0 out1 : SinkState) : Type 0 where
@@ -100,13 +78,13 @@ pub record ClosedBehind (before journal : List Entry) (old new : Keeping) (out0 
   pub counted : length (settled_lines old.state.plan old.state.given_start before old.state.show) + new.state.lines ≡ length (final_lines old.state.plan old.state.given_start journal old.state.show)
 
 -- what is run at the end of a run's rows, whatever journal the run stands for and whatever front of it others had taken
-abbrev pub ClosesBehind : Result (Unit {0}) Stop → Keeping → Keeping → SinkState → SinkState → Type 0
-ClosesBehind (Ok done) old new out0 out1 = (before journal : List Entry) → IsBehind before journal old → ClosedBehind before journal old new out0 out1
-ClosesBehind (Err (stop.Fault stream kind time)) old new out0 out1 =
+abbrev pub Closes : Result (Unit {0}) Stop → Keeping → Keeping → SinkState → SinkState → Type 0
+Closes (Ok done) old new out0 out1 = (before journal : List Entry) → IsBehind before journal old → ClosedBehind before journal old new out0 out1
+Closes (Err (stop.Fault stream kind time)) old new out0 out1 =
     (before journal : List Entry) → IsBehind before journal old → ClosedByFault (record { stream = stream; kind = kind; time = time }) journal old out0 out1
-ClosesBehind (Err (stop.CutFault stream kind time)) old new out0 out1 = (before journal : List Entry) → IsBehind before journal old → ⊥
-ClosesBehind (Err stop.Put) old new out0 out1 = (before journal : List Entry) → IsBehind before journal old → CutClose journal old out0 out1
-ClosesBehind (Err stop.Memory) old new out0 out1 = out1 ≡ out0
+Closes (Err (stop.CutFault stream kind time)) old new out0 out1 = (before journal : List Entry) → IsBehind before journal old → ⊥
+Closes (Err stop.Put) old new out0 out1 = (before journal : List Entry) → IsBehind before journal old → CutClose journal old out0 out1
+Closes (Err stop.Memory) old new out0 out1 = out1 ≡ out0
 
 -- the text of lines without those that the front of a journal has settled
 abbrev pub text_behind : Setting → List Entry → List (List ℕ) → List ℕ

@@ -1,9 +1,7 @@
 -- Sources that are read in turns: what is taken of each, and how a run of their rows ends.
-use Rattle.std.specs.Prelude.{Bool, true, ℕ, ◌≡◌, ◌⊎◌, ◌≤◌, List, [], ◌++◌, Option, Some, None, IsSome, Result, Ok, Err, false, length, map, slice_get}
-use Rattle.lola_port.specs.States.{PutBroke, Rose, SinkState, grown}
-use Rattle.lola_model.specs.Journal.{IsLegal, accepted, rows_of}
-use Rattle.lola_model.specs.Faults.{RunFault}
-use Rattle.lola_model.specs.Runs.{final_lines, whole_model}
+use Rattle.std.specs.Prelude.{ℕ, ◌≡◌, ◌≤◌, List, [], ◌++◌, Option, Some, None, IsSome, OnOk, Result, false, length, map, slice_get}
+use Rattle.lola_port.specs.States.{Rose, SinkState, grown}
+use Rattle.lola_model.specs.Journal.{rows_of}
 use Rattle.lola_model.specs.Trace.{trace_text}
 use Rattle.lola_model.specs.declared.plan.Plan.{Plan}
 use Rattle.lola_model.specs.declared.journal.Row.{Row}
@@ -14,11 +12,10 @@ use Rattle.lola_merge.specs.Merging.{Merging, sources_of}
 use Rattle.lola_feed.specs.Feeding.{Working, beginning, bound_of, handed_in, to_come}
 use Rattle.lola_feed.specs.declared.worker.SourceEnd as worker
 use Rattle.lola_feed.specs.declared.worker.SourceEnd.TheVariants.{End, Malformed, ReadFailed, Closed, Memory}
-use Rattle.lola_monitor_run.specs.Verdicts.{AreOfSources, AreTraceable, HasFront, IsCutAtDeadline, IsCutAtRow, IsCutInLine, IsRowFault, fault_in, late_count, most_rows, settled_fault_in, settled_text, verdicts}
-use Rattle.lola_monitor_run.specs.Running.{Keeping, IsSetAs, Stands, setting_in}
+use Rattle.lola_monitor_run.specs.Verdicts.{most_rows}
+use Rattle.lola_monitor_run.specs.Running.{Keeping, Writes}
 use Rattle.lola_monitor_run.specs.Rounds.{AreFirst}
 use Rattle.lola_monitor_run.specs.declared.stop.Stop.{Stop}
-use Rattle.lola_monitor_run.specs.declared.stop.Stop.TheVariants as stop
 
 -- what is known of a source: the rows still to come where it tells its bytes, how many were handed in, its faults, a bound on
 -- the rows still to come, and how it ended
@@ -106,135 +103,20 @@ pub record World : Type 0 where
 abbrev pub world : Keeping → List Supply → SinkState → SinkState → World
 world kept sources out trace = record { kept = kept; sources = sources; out = out; trace = trace }
 
--- where a run came to: where its sources are read in turns, their rows came in rounds
-pub record CameTo (in_turns : Bool) (first last : World) : Type 0 where
-  pub journal : List Entry
-  pub legal : IsLegal first.kept.state.given_start journal
-  pub sources : AreOfSources (length first.sources) journal
-  pub traceable : AreTraceable first.kept.state.plan journal
-  pub rounds : in_turns ≡ true → GoInRounds first.sources last.sources journal
-
 -- the trace received the lines of a journal
 abbrev pub AreTraced : World → World → List Entry → Type 0
 AreTraced first last journal = last.trace ≡ grown first.trace (trace_text journal)
 
--- a run to the end of its sources, each of which may have failed
-pub record RanToEnd (in_turns : Bool) (first last : World) : Type 0 where
-  pub came : CameTo in_turns first last
-  pub setting : IsSetAs first.kept last.kept
-  pub fed : AreFed first.sources last.sources came.journal
-  pub ended : HaveEnded last.sources
-  pub trace : AreTraced first last came.journal
-  pub out : last.out ≡ grown first.out (settled_text (setting_in first.kept) came.journal)
-  pub stands : Stands came.journal last.kept
-
--- a run to the first fault of a row
-pub record RanToFault (in_turns : Bool) (fault : RunFault) (first last : World) : Type 0 where
-  pub came : CameTo in_turns first last
-  pub begun : HaveBegun first.sources came.journal
-  pub trace : AreTraced first last came.journal
-  pub out : last.out ≡ grown first.out (settled_text (setting_in first.kept) came.journal)
-  pub stands : IsRowFault (setting_in first.kept) came.journal fault
-
--- a run to the first fault of a row, before whose line a put failed: a proper part of the verdicts was put
-pub record RanToCutFault (in_turns : Bool) (fault : RunFault) (first last : World) : Type 0 where
-  pub came : CameTo in_turns first last
-  pub begun : HaveBegun first.sources came.journal
-  pub trace : AreTraced first last came.journal
-  pub out : PutBroke first.out last.out (settled_text (setting_in first.kept) came.journal)
-  pub stands : IsRowFault (setting_in first.kept) came.journal fault
-
--- a run without a fault to a row whose trace line was cut short: the verdicts of all rows before it were put
-pub record RanToTraceCut (in_turns : Bool) (first last : World) : Type 0 where
-  pub came : CameTo in_turns first last
-  pub begun : HaveBegun first.sources came.journal
-  pub no_fault : settled_fault_in (setting_in first.kept) came.journal ≡ None
-  pub trace : IsCutInLine first.kept.state.plan first.trace last.trace came.journal
-  pub out : last.out ≡ grown first.out (settled_text (setting_in first.kept) came.journal)
-
--- a run without a fault to a row that was traced, and whose verdicts were cut short
-pub record RanToRowCut (in_turns : Bool) (first last : World) : Type 0 where
-  pub came : CameTo in_turns first last
-  pub begun : HaveBegun first.sources came.journal
-  pub no_fault : settled_fault_in (setting_in first.kept) came.journal ≡ None
-  pub trace : AreTraced first last came.journal
-  pub out : IsCutAtRow (setting_in first.kept) first.out last.out came.journal
-
--- a run that a failed put cut short
-abbrev pub RanToFailedPut : Bool → World → World → Type 0
-RanToFailedPut in_turns first last = RanToTraceCut in_turns first last ⊎ RanToRowCut in_turns first last
-
--- a run that ended for want of memory: all its rows were traced, and a front of their verdicts was put
-pub record RanOutOfMemory (in_turns : Bool) (first last : World) : Type 0 where
-  pub came : CameTo in_turns first last
-  pub begun : HaveBegun first.sources came.journal
-  pub trace : AreTraced first last came.journal
-  pub out : HasFront (setting_in first.kept) first.out last.out came.journal
-
--- all rows of a run
-abbrev pub Runs : Bool → Result (Unit {0}) Stop → World → World → Type 0
-Runs in_turns (Ok done) first last = RanToEnd in_turns first last
-Runs in_turns (Err (stop.Fault stream kind time)) first last = RanToFault in_turns (record { stream = stream; kind = kind; time = time }) first last
-Runs in_turns (Err (stop.CutFault stream kind time)) first last = RanToCutFault in_turns (record { stream = stream; kind = kind; time = time }) first last
-Runs in_turns (Err stop.Put) first last = RanToFailedPut in_turns first last
-Runs in_turns (Err stop.Memory) first last = RanOutOfMemory in_turns first last
-
--- a whole run, with the deadlines at its last stamp: all verdicts were put
-pub record Through (in_turns : Bool) (first last : World) : Type 0 where
-  pub came : CameTo in_turns first last
-  pub begun : HaveBegun first.sources came.journal
-  pub trace : AreTraced first last came.journal
-  pub out : last.out ≡ grown first.out (verdicts (setting_in first.kept) came.journal)
-
--- a whole run without a fault, to the end of its sources
-pub record ThroughWell (in_turns : Bool) (first last : World) : Type 0 where
-  pub through : Through in_turns first last
-  pub fed : AreFed first.sources last.sources through.came.journal
-  pub ended : HaveEnded last.sources
-  pub no_fault : fault_in (setting_in first.kept) through.came.journal ≡ None
-  pub settled : settled_fault_in (setting_in first.kept) through.came.journal ≡ None
-  pub steps : last.kept.state.steps ≡ length (whole_model first.kept.state.plan first.kept.state.given_start through.came.journal)
-  pub accepted : last.kept.accepted ≡ length (accepted through.came.journal)
-  pub late : last.kept.late ≡ late_count through.came.journal
-  pub lines : last.kept.state.lines ≡ length (final_lines first.kept.state.plan first.kept.state.given_start through.came.journal first.kept.state.show)
-
--- the deadline at the last stamp has the fault, and all sources have ended
-pub record IsAtDeadline (journal : List Entry) (first last : World) : Type 0 where
-  pub settled : settled_fault_in (setting_in first.kept) journal ≡ None
+-- all rows of sources were taken: each was read to its end, or has failed
+pub record WereTaken (first last : World) : Type 0 where
+  pub journal : List Entry
   pub fed : AreFed first.sources last.sources journal
   pub ended : HaveEnded last.sources
 
--- a whole run, to its first fault: that of its last row, or of the deadline at the last stamp
-pub record EndedByFault (in_turns : Bool) (fault : RunFault) (first last : World) : Type 0 where
-  pub through : Through in_turns first last
-  pub is_fault : fault_in (setting_in first.kept) through.came.journal ≡ Some fault
-  pub place : IsRowFault (setting_in first.kept) through.came.journal fault ⊎ IsAtDeadline through.came.journal first last
-
--- a run to the first fault, before whose line a put failed: a proper part of all verdicts was put
-pub record EndedByCutFault (in_turns : Bool) (fault : RunFault) (first last : World) : Type 0 where
-  pub came : CameTo in_turns first last
-  pub begun : HaveBegun first.sources came.journal
-  pub trace : AreTraced first last came.journal
-  pub out : PutBroke first.out last.out (verdicts (setting_in first.kept) came.journal)
-  pub is_fault : fault_in (setting_in first.kept) came.journal ≡ Some fault
-  pub place : IsRowFault (setting_in first.kept) came.journal fault
-
--- a whole run without a fault, where the verdicts of the deadlines at the last stamp were cut short
-pub record ThroughCut (in_turns : Bool) (first last : World) : Type 0 where
-  pub came : CameTo in_turns first last
-  pub begun : HaveBegun first.sources came.journal
-  pub no_fault : fault_in (setting_in first.kept) came.journal ≡ None
-  pub place : IsAtDeadline came.journal first last
-  pub trace : AreTraced first last came.journal
-  pub out : IsCutAtDeadline (setting_in first.kept) first.out last.out came.journal
-
--- how a whole run ends, whose sources are read in turns or not
-abbrev pub EndsRun : Bool → Result (Unit {0}) Stop → World → World → Type 0
-EndsRun in_turns (Ok done) first last = ThroughWell in_turns first last
-EndsRun in_turns (Err (stop.Fault stream kind time)) first last = EndedByFault in_turns (record { stream = stream; kind = kind; time = time }) first last
-EndsRun in_turns (Err (stop.CutFault stream kind time)) first last = EndedByCutFault in_turns (record { stream = stream; kind = kind; time = time }) first last
-EndsRun in_turns (Err stop.Put) first last = RanToFailedPut in_turns first last ⊎ ThroughCut in_turns first last
-EndsRun in_turns (Err stop.Memory) first last = RanOutOfMemory in_turns first last
+-- how the rows of a run ended, whatever journal it stood for: what is known of its sources, of the sink and of the trace
+pub record RunEnds (result : Result (Unit {0}) Stop) (first last : World) : Type 0 where
+  pub taken : OnOk result (WereTaken first last)
+  pub writes : Writes result first.out last.out first.trace last.trace
 
 -- workers of some sources before their first turn, of which that of source s reads the rows of source s of a plan
 pub record AreReady (plan : Plan) (workers : List Working) : Type 0 where

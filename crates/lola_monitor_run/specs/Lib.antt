@@ -4,3 +4,5 @@ pub mod Rounds
 pub mod Feeds
 pub mod Behind
 pub mod Turning
+pub mod Handing
+pub mod Schedules

@@ -18,7 +18,7 @@ use Rattle.lola_feed.specs.declared.worker.TurnEnd.{TurnEnd}
 use Rattle.lola_feed.specs.declared.worker.TurnEnd.TheVariants as turn
 use Rattle.lola_monitor_run.specs.Verdicts.{AreOfSources, AreTraceable, late_count, most_rows}
 use Rattle.lola_monitor_run.specs.Running.{CutFaultNext, CutNext, FaultNext, IsAccepted, IsGoing, IsNext, IsRowFor, IsSetAs, KeptNext, setting_in}
-use Rattle.lola_monitor_run.specs.Behind.{Beginning, HasTaken, NextFrom, RunsBehind, StandsFrom, front_of, settled_behind}
+use Rattle.lola_monitor_run.specs.Behind.{HasTaken, IsBehind, NextBehind, RunsBehind, settled_behind}
 use Rattle.lola_monitor_run.specs.declared.stop.Stop.{Stop}
 use Rattle.lola_monitor_run.specs.declared.stop.Stop.TheVariants as stop
 use Rattle.lola_monitor_run.specs.Rounds.{InTurn}
@@ -114,7 +114,7 @@ pub record Stepped (s : ℕ) (old new : World) : Type 0 where
   pub traced : Traced s entry old new
   pub setting : IsSetAs old.kept new.kept
   pub taken : HasTaken entry old.kept new.kept
-  pub runs : (b : Beginning) (journal : List Entry) → StandsFrom b journal old.kept → NextFrom b journal entry old.kept new.kept old.out new.out
+  pub runs : (before journal : List Entry) → IsBehind before journal old.kept → NextBehind before journal entry old.kept new.kept old.out new.out
 
 -- a source had no row
 pub record Passed (s : ℕ) (old new : World) : Type 0 where
@@ -126,14 +126,14 @@ pub record SawFault (fault : RunFault) (s : ℕ) (old new : World) : Type 0 wher
   pub entry : Entry
   pub traced : Traced s entry old new
   pub accepted : IsAccepted entry
-  pub runs : (b : Beginning) (journal : List Entry) → StandsFrom b journal old.kept → FaultNext fault journal entry old.kept old.out new.out
+  pub runs : (before journal : List Entry) → IsBehind before journal old.kept → FaultNext fault journal entry old.kept old.out new.out
 
 -- a row was taken and traced, and has a fault, the lines before which were cut short
 pub record SawCutFault (fault : RunFault) (s : ℕ) (old new : World) : Type 0 where
   pub entry : Entry
   pub traced : Traced s entry old new
   pub accepted : IsAccepted entry
-  pub runs : (b : Beginning) (journal : List Entry) → StandsFrom b journal old.kept → CutFaultNext fault journal entry old.kept old.out new.out
+  pub runs : (before journal : List Entry) → IsBehind before journal old.kept → CutFaultNext fault journal entry old.kept old.out new.out
 
 -- a row was taken, and its line was cut short
 pub record TraceCut (s : ℕ) (old new : World) : Type 0 where
@@ -155,13 +155,13 @@ pub record OutCut (s : ℕ) (old new : World) : Type 0 where
   pub entry : Entry
   pub traced : Traced s entry old new
   pub accepted : IsAccepted entry
-  pub runs : (b : Beginning) (journal : List Entry) → StandsFrom b journal old.kept → CutNext journal entry old.kept old.out new.out
+  pub runs : (before journal : List Entry) → IsBehind before journal old.kept → CutNext journal entry old.kept old.out new.out
 
 -- a row was taken and traced, and its lines were not put
 pub record OutKept (s : ℕ) (old new : World) : Type 0 where
   pub entry : Entry
   pub traced : Traced s entry old new
-  pub runs : (b : Beginning) (journal : List Entry) → StandsFrom b journal old.kept → KeptNext journal entry old.kept old.out new.out
+  pub runs : (before journal : List Entry) → IsBehind before journal old.kept → KeptNext journal entry old.kept old.out new.out
 
 -- one turn: whether a row was taken
 abbrev pub Steps : Result Bool Stop → ℕ → World → World → Type 0
@@ -171,6 +171,11 @@ Steps (Err (stop.Fault stream kind time)) s old new = SawFault (record { stream 
 Steps (Err (stop.CutFault stream kind time)) s old new = SawCutFault (record { stream = stream; kind = kind; time = time }) s old new
 Steps (Err stop.Put) s old new = TraceCut s old new ⊎ OutCut s old new
 Steps (Err stop.Memory) s old new = NotTraced s old new ⊎ OutKept s old new
+
+-- whether turns were made, whatever they answer
+abbrev pub without_answer : Result Bool Stop → Result (Unit {0}) Stop
+without_answer (Ok moved) = Ok tt
+without_answer (Err end) = Err end
 
 -- a row that was taken was traced and run, or what kept it from that
 abbrev pub RunsTaken : Result (Unit {0}) Stop → ℕ → World → World → Type 0
@@ -200,12 +205,12 @@ pub record SoFar (first : World) (round turn : ℕ) (now : World) : Type 0 where
   pub rows : now.kept.state.rows ≤ length (accepted journal) + 1
   pub late : now.kept.late ≡ late_count journal
   pub accepted : now.kept.accepted ≡ length (accepted journal)
-  pub stands : (b : Beginning) → StandsFrom b (front_of b) first.kept → StandsFrom b (front_of b ++ journal) now.kept
-  pub out : (b : Beginning) → StandsFrom b (front_of b) first.kept → now.out ≡ grown first.out (settled_behind (setting_in first.kept) (front_of b) journal)
+  pub stands : (before : List Entry) → IsBehind before before first.kept → IsBehind before (before ++ journal) now.kept
+  pub out : (before : List Entry) → IsBehind before before first.kept → now.out ≡ grown first.out (settled_behind (setting_in first.kept) before journal)
 
 -- how the rows of a run were stopped, whatever it stood for at first
 abbrev pub StopsFrom : Stop → World → World → Type 0
-StopsFrom end first last = (b : Beginning) → StandsFrom b (front_of b) first.kept → RunsBehind true (front_of b) (Err end) first last
+StopsFrom end first last = (before : List Entry) → IsBehind before before first.kept → RunsBehind true before (Err end) first last
 
 -- all rows of a run, to the end of its sources or to what stopped them
 abbrev pub RunsOn : Result (Unit {0}) Stop → World → World → Type 0

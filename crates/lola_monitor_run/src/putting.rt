@@ -5,7 +5,7 @@ ghost use Rattle.lola_monitor_run.specs.Running.{Puts};
 use crate::stop::Stop;
 use lola_model::journal::Entry;
 use lola_port::Sink;
-use lola_report_lines::trace::trace_line;
+use lola_report::trace::trace_line;
 use lola_value::text::Text;
 use std::alloc::Global;
 

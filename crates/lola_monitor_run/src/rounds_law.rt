@@ -2,15 +2,10 @@
 ghost use Rattle.std.specs.Prelude.{Bool, Err, List};
 ghost use Rattle.lola_model.specs.declared.journal.Entry.{Entry};
 ghost use Rattle.lola_monitor_run.specs.Behind.{EndsBehind, RunsBehind};
-ghost use Rattle.lola_monitor_run.specs.Feeds.{EndsRun, Runs, World};
+ghost use Rattle.lola_monitor_run.specs.Feeds.{World};
 ghost use Rattle.lola_monitor_run.specs.declared.stop.Stop.{Stop};
 
 /// A run that was stopped among its rows has ended: the deadlines at its last stamp are not run.
 pub fn stopped_runs_end()
-    ensures { (in_turns : Bool) (how : Stop) (first last : World) → Runs in_turns (Err how) first last → EndsRun in_turns (Err how) first last }
-{}
-
-/// And so has one that went on behind others.
-pub fn stopped_runs_end_behind()
     ensures { (in_turns : Bool) (before : List Entry) (how : Stop) (first last : World) → RunsBehind in_turns before (Err how) first last → EndsBehind in_turns before (Err how) first last }
 {}

@@ -1,13 +1,13 @@
 //! The rows of sources, in turns.
-ghost use Rattle.std.specs.Prelude.{◌≡◌, ◌<◌, ◌≤◌, ◌↔◌, ◌||◌, Bool, true, List, [], IfOk, IsTrue, OnOk, length, map};
+ghost use Rattle.std.specs.Prelude.{◌≡◌, ◌<◌, ◌≤◌, ◌↔◌, ◌||◌, Bool, true, List, [], IfOk, Ok, IsTrue, OnOk, length, map};
 ghost use Rattle.lola_port.specs.States.{SinkState};
 ghost use Rattle.lola_model.specs.Journal.{opening_time};
 ghost use Rattle.lola_model.specs.declared.journal.Entry.{Entry};
 ghost use Rattle.lola_merge.specs.Merging.{opening};
-ghost use Rattle.lola_monitor_run.specs.Running.{HasRoom, IsGoing, IsSetAs, Stands, keeping};
-ghost use Rattle.lola_monitor_run.specs.Feeds.{AreInPlace, AreReady, EndsRun, IsFresh, IsIdle, RanToEnd, Supply, World, supplies_of, supply_of, world};
+ghost use Rattle.lola_monitor_run.specs.Running.{HasRoom, IsGoing, IsSetAs, Writes, keeping};
+ghost use Rattle.lola_monitor_run.specs.Feeds.{AreInPlace, AreReady, IsFresh, IsIdle, RunEnds, Supply, World, supplies_of, supply_of, world};
 ghost use Rattle.lola_monitor_run.specs.Behind.{EndsBehind, HasTakenNone, IsBehind, RanToEndBehind, RunsBehind};
-ghost use Rattle.lola_monitor_run.specs.Turning.{GoesRound, IsOutOfMemory, IsBetweenRounds, RunsOn, Steps};
+ghost use Rattle.lola_monitor_run.specs.Turning.{GoesRound, IsOutOfMemory, IsBetweenRounds, RunsOn, Steps, without_answer};
 
 use crate::feed::Feed;
 use crate::run::Run;
@@ -46,6 +46,7 @@ fn run_turn<R: Threads + Sync, S: Source, K: Sink, T: Sink, G: Gate + Sync>(
     requires idle { IsIdle feed.old (keeping run.old) }
     ensures steps { Steps result source (world (keeping run.old) (supplies_of feed.old) (K.state out.old) (T.state trace.old))
         (world (keeping run.new) (supplies_of feed.new) (K.state out.new) (T.state trace.new)) }
+    ensures writes { Writes (without_answer result) (K.state out.old) (K.state out.new) (T.state trace.old) (T.state trace.new) }
     ensures idle { OnOk result (IsIdle feed.new (keeping run.new)) }
     ensures places { AreInPlace feed.old.workers feed.new.workers }
     ensures setting { IsSetAs (keeping run.old) (keeping run.new) }
@@ -85,6 +86,7 @@ fn run_round<R: Threads + Sync, S: Source, K: Sink, T: Sink, G: Gate + Sync>(
     requires idle { IsIdle feed.old (keeping run.old) }
     ensures goes { GoesRound result (world (keeping run.old) (supplies_of feed.old) (K.state out.old) (T.state trace.old))
         (world (keeping run.new) (supplies_of feed.new) (K.state out.new) (T.state trace.new)) }
+    ensures writes { Writes (without_answer result) (K.state out.old) (K.state out.new) (T.state trace.old) (T.state trace.new) }
     ensures idle { OnOk result (IsIdle feed.new (keeping run.new)) }
     ensures places { AreInPlace feed.old.workers feed.new.workers }
     ensures setting { IsSetAs (keeping run.old) (keeping run.new) }
@@ -115,6 +117,8 @@ fn run_rows<R: Threads + Sync, S: Source, K: Sink, T: Sink, G: Gate + Sync>(
     requires fresh { IsFresh feed.old }
     ensures run { RunsOn result (world (keeping run.old) (supplies_of feed.old) (K.state out.old) (T.state trace.old))
         (world (keeping run.new) (supplies_of feed.new) (K.state out.new) (T.state trace.new)) }
+    ensures ends { RunEnds result (world (keeping run.old) (supplies_of feed.old) (K.state out.old) (T.state trace.old))
+        (world (keeping run.new) (supplies_of feed.new) (K.state out.new) (T.state trace.new)) }
     ensures places { AreInPlace feed.old.workers feed.new.workers }
     ensures setting { IsSetAs (keeping run.old) (keeping run.new) }
     ensures going { OnOk result (IsGoing (keeping run.new)) }
@@ -136,13 +140,13 @@ pub fn run_out<R: Threads + Sync, K: Sink, G: Gate + Sync>(
     gate: &G,
 ) -> Result<(), Stop>
     requires going { IsGoing (keeping run.old) }
-    ensures run { (in_turns : Bool) (first : World) (sources : List Supply) (trace : SinkState) → RanToEnd in_turns first (world (keeping run.old) sources (K.state out.old) trace)
-        → EndsRun in_turns result first (world (keeping run.new) sources (K.state out.new) trace) }
+    ensures ends { (first : World) (sources : List Supply) (trace : SinkState) → RunEnds (Ok tt) first (world (keeping run.old) sources (K.state out.old) trace)
+        → RunEnds result first (world (keeping run.new) sources (K.state out.new) trace) }
     ensures behind { (in_turns : Bool) (before : List Entry) (first : World) (sources : List Supply) (trace : SinkState) → RanToEndBehind in_turns before first (world (keeping run.old) sources (K.state out.old) trace)
         → EndsBehind in_turns before result first (world (keeping run.new) sources (K.state out.new) trace) }
     ensures plan { (keeping run.new).state.plan ≡ (keeping run.old).state.plan }
 {
-    run.close(rt, out, gate)
+    run.finish(rt, out, gate)
 }
 
 // Runs all rows of the sources of a feed, and then the deadlines at the last stamp, unless a row has a fault or the run was cut
@@ -158,7 +162,7 @@ fn run_whole<R: Threads + Sync, S: Source, K: Sink, T: Sink, G: Gate + Sync>(
     requires none { HasTakenNone (keeping run.old) }
     requires idle { IsIdle feed.old (keeping run.old) }
     requires fresh { IsFresh feed.old }
-    ensures run { Stands [] (keeping run.old) → EndsRun true result (world (keeping run.old) (supplies_of feed.old) (K.state out.old) (T.state trace.old))
+    ensures ends { RunEnds result (world (keeping run.old) (supplies_of feed.old) (K.state out.old) (T.state trace.old))
         (world (keeping run.new) (supplies_of feed.new) (K.state out.new) (T.state trace.new)) }
     ensures behind { (before : List Entry) → IsBehind before before (keeping run.old)
         → EndsBehind true before result (world (keeping run.old) (supplies_of feed.old) (K.state out.old) (T.state trace.old))
@@ -172,63 +176,9 @@ fn run_whole<R: Threads + Sync, S: Source, K: Sink, T: Sink, G: Gate + Sync>(
     }
 }
 
-// Runs all rows of sources in turns, and then the deadlines at the last stamp, for a run that has begun or goes on.
-fn run_all<R: Threads + Sync, S: Source, K: Sink, T: Sink, G: Gate + Sync>(
-    rt: &R,
-    alloc: Global,
-    run: &mut Run,
-    workers: Vec<SourceWorker<S>>,
-    start: Option<u64>,
-    out: &mut K,
-    trace: &mut T,
-    gate: &G,
-) -> (Vec<SourceWorker<S>>, Result<(), Stop>)
-    requires none { HasTakenNone (keeping run.old) }
-    requires ready { AreReady (keeping run.old).state.plan workers.items }
-    requires start { opening_time start ≡ (keeping run.old).state.merged }
-    ensures run { Stands [] (keeping run.old) → EndsRun true result.1 (world (keeping run.old) (map supply_of workers.items) (K.state out.old) (T.state trace.old))
-        (world (keeping run.new) (map supply_of result.0.items) (K.state out.new) (T.state trace.new)) }
-    ensures behind { (before : List Entry) → IsBehind before before (keeping run.old)
-        → EndsBehind true before result.1 (world (keeping run.old) (map supply_of workers.items) (K.state out.old) (T.state trace.old))
-        (world (keeping run.new) (map supply_of result.0.items) (K.state out.new) (T.state trace.new)) }
-    ensures places { AreInPlace workers.items result.0.items }
-    ensures plan { (keeping run.new).state.plan ≡ (keeping run.old).state.plan }
-{
-    let sources = workers.len() as u32;
-    let (state, batch) = match make_room(alloc, sources, start) {
-        Ok(room) => room,
-        Err(_) => return (workers, Err(Stop::Memory)),
-    };
-    let mut feed = Feed::create(workers, state, batch);
-    let stopped = run_whole(rt, run, &mut feed, out, trace, gate);
-    (feed.into_workers(), stopped)
-}
-
-/// Runs all rows of sources, which are read in turns, and then the deadlines at the last stamp, unless a row has a fault
-/// or the run was cut short. The workers come back as their turns left them.
-pub fn run_in_turns<R: Threads + Sync, S: Source, K: Sink, T: Sink, G: Gate + Sync>(
-    rt: &R,
-    alloc: Global,
-    run: &mut Run,
-    workers: Vec<SourceWorker<S>>,
-    start: Option<u64>,
-    out: &mut K,
-    trace: &mut T,
-    gate: &G,
-) -> (Vec<SourceWorker<S>>, Result<(), Stop>)
-    requires stands { Stands [] (keeping run.old) }
-    requires ready { AreReady (keeping run.old).state.plan workers.items }
-    requires start { start ≡ (keeping run.old).state.given_start }
-    ensures run { EndsRun true result.1 (world (keeping run.old) (map supply_of workers.items) (K.state out.old) (T.state trace.old))
-        (world (keeping run.new) (map supply_of result.0.items) (K.state out.new) (T.state trace.new)) }
-    ensures places { AreInPlace workers.items result.0.items }
-    ensures plan { (keeping run.new).state.plan ≡ (keeping run.old).state.plan }
-{
-    run_all(rt, alloc, run, workers, start, out, trace, gate)
-}
-
-/// Runs all rows of sources, which are read in turns, and then the deadlines at the last stamp, in a run that goes on: whatever journal
-/// others had taken, the rows come behind it, and the deadlines at its last stamp are still to be run, also where no row comes.
+/// Runs all rows of sources, which are read in turns, and then the deadlines at the last stamp, unless a row has a fault or the run was
+/// cut short. The run is new or goes on: whatever journal others had taken, the rows come behind it, and the deadlines at its last stamp
+/// are still to be run, also where no row comes.
 /// `start` is the time that was merged: the stamp of the last accepted row, or else the start. The workers come back as their turns
 /// left them.
 pub fn resume_in_turns<R: Threads + Sync, S: Source, K: Sink, T: Sink, G: Gate + Sync>(
@@ -247,10 +197,19 @@ pub fn resume_in_turns<R: Threads + Sync, S: Source, K: Sink, T: Sink, G: Gate +
     ensures run { (before : List Entry) → IsBehind before before (keeping run.old)
         → EndsBehind true before result.1 (world (keeping run.old) (map supply_of workers.items) (K.state out.old) (T.state trace.old))
         (world (keeping run.new) (map supply_of result.0.items) (K.state out.new) (T.state trace.new)) }
+    ensures ends { RunEnds result.1 (world (keeping run.old) (map supply_of workers.items) (K.state out.old) (T.state trace.old))
+        (world (keeping run.new) (map supply_of result.0.items) (K.state out.new) (T.state trace.new)) }
     ensures places { AreInPlace workers.items result.0.items }
     ensures plan { (keeping run.new).state.plan ≡ (keeping run.old).state.plan }
 {
-    run_all(rt, alloc, run, workers, start, out, trace, gate)
+    let sources = workers.len() as u32;
+    let (state, batch) = match make_room(alloc, sources, start) {
+        Ok(room) => room,
+        Err(_) => return (workers, Err(Stop::Memory)),
+    };
+    let mut feed = Feed::create(workers, state, batch);
+    let stopped = run_whole(rt, run, &mut feed, out, trace, gate);
+    (feed.into_workers(), stopped)
 }
 
 /// Runs all rows of sources, which are read in turns, and leaves the deadlines at the last stamp to be run by others, who go on from the
@@ -271,6 +230,8 @@ pub fn rows_in_turns<R: Threads + Sync, S: Source, K: Sink, T: Sink, G: Gate + S
     requires start { opening_time start ≡ (keeping run.old).state.merged }
     ensures run { (before : List Entry) → IsBehind before before (keeping run.old)
         → RunsBehind true before result.1 (world (keeping run.old) (map supply_of workers.items) (K.state out.old) (T.state trace.old))
+        (world (keeping run.new) (map supply_of result.0.items) (K.state out.new) (T.state trace.new)) }
+    ensures ends { RunEnds result.1 (world (keeping run.old) (map supply_of workers.items) (K.state out.old) (T.state trace.old))
         (world (keeping run.new) (map supply_of result.0.items) (K.state out.new) (T.state trace.new)) }
     ensures places { AreInPlace workers.items result.0.items }
     ensures setting { IsSetAs (keeping run.old) (keeping run.new) }

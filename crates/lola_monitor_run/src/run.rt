@@ -2,11 +2,12 @@
 ghost use Rattle.std.specs.Prelude.{◌≡◌, ◌+◌, ◌<◌, ◌≤◌, [], IfOk, OnOk};
 ghost use Rattle.lola_model.specs.Acceptance.{IsAccepted};
 ghost use Rattle.lola_model.specs.Trace.{IsTraceable, trace_line};
+ghost use Rattle.lola_port.specs.States.{SinkState};
 ghost use Rattle.lola_engine.specs.Behind.{StandsBehind};
-ghost use Rattle.lola_engine.specs.Engines.{IsEngine, IsOptionInTime, StandsFor};
+ghost use Rattle.lola_engine.specs.Engines.{IsEngine, IsOptionInTime};
 ghost use Rattle.lola_instances.specs.Stores.{bounded_remembers, bounded_seen};
-ghost use Rattle.lola_monitor_run.specs.Running.{Closes, Enters, HasRoom, IsGoing, IsNext, IsRowFor, IsSetAs, Puts, RunsAccepted, Stands, StopsAt, Takes, keeping, setting_at, setting_in};
-ghost use Rattle.lola_monitor_run.specs.Behind.{ClosesBehind, EntersFrom, HasTaken, HasTakenNone, IsBehind, TakesFromAny};
+ghost use Rattle.lola_monitor_run.specs.Running.{HasRoom, IsGoing, IsNext, IsRowFor, IsSetAs, Puts, RunsAccepted, StopsAt, Writes, keeping, setting_at, setting_in};
+ghost use Rattle.lola_monitor_run.specs.Behind.{Closes, Enters, HasTaken, HasTakenNone, IsBehind, Takes};
 
 use crate::putting::{put_entry, put_text};
 use crate::run_law::numbers_are_in_range;
@@ -63,7 +64,6 @@ fn new_engine(
     requires start { IsOptionInTime start }
     ensures engine { IfOk result (λ engine. IsEngine engine.state (bounded_seen engine.store)) }
     ensures setting { IfOk result (λ engine. setting_at engine.state ≡ record { plan = plan; start = start; show = show }) }
-    ensures stands { IfOk result (λ engine. StandsFor engine.state (bounded_seen engine.store) (bounded_remembers engine.store) []) }
     ensures behind { IfOk result (λ engine. StandsBehind engine.state (bounded_seen engine.store) (bounded_remembers engine.store) [] []) }
 {
     accepted_is_storable(&plan);
@@ -85,7 +85,6 @@ impl Run {
         requires accepted { IsAccepted plan }
         requires workers { (1 ≤ workers) × (workers ≤ 64) }
         requires start { IsOptionInTime start }
-        ensures fresh { IfOk result (λ run. Stands [] (keeping run)) }
         ensures setting { IfOk result (λ run. setting_in (keeping run) ≡ record { plan = plan; start = start; show = show }) }
         ensures none { IfOk result (λ run. HasTakenNone (keeping run)) }
         ensures behind { IfOk result (λ run. IsBehind [] [] (keeping run)) }
@@ -158,7 +157,7 @@ impl Run {
         requires room { HasRoom (keeping self.old) }
         requires mark { IsNext (keeping self.old) entry.now }
         ensures takes { Takes result entry.now (keeping self.old) (keeping self.new) (K.state out.old) (K.state out.new) }
-        ensures from { TakesFromAny result entry.now (keeping self.old) (keeping self.new) (K.state out.old) (K.state out.new) }
+        ensures writes { (trace : SinkState) → Writes result (K.state out.old) (K.state out.new) trace trace }
         ensures taken { OnOk result (HasTaken entry.now (keeping self.old) (keeping self.new)) }
         ensures setting { IsSetAs (keeping self.old) (keeping self.new) }
     {
@@ -185,7 +184,7 @@ impl Run {
         requires room { HasRoom (keeping self.old) }
         requires mark { IsNext (keeping self.old) entry.now }
         ensures enters { Enters result entry.now (keeping self.old) (keeping self.new) (K.state out.old) (K.state out.new) (T.state trace.old) (T.state trace.new) }
-        ensures from { EntersFrom result entry.now (keeping self.old) (keeping self.new) (K.state out.old) (K.state out.new) (T.state trace.old) (T.state trace.new) }
+        ensures writes { Writes result (K.state out.old) (K.state out.new) (T.state trace.old) (T.state trace.new) }
         ensures taken { OnOk result (HasTaken entry.now (keeping self.old) (keeping self.new)) }
         ensures setting { IsSetAs (keeping self.old) (keeping self.new) }
     {
@@ -196,7 +195,7 @@ impl Run {
     }
 
     /// Runs the deadlines at the last accepted stamp and puts their lines, once no more rows come.
-    pub fn close<R: Threads + Sync, K: Sink, G: Gate + Sync>(
+    pub fn finish<R: Threads + Sync, K: Sink, G: Gate + Sync>(
         &mut self,
         rt: &R,
         out: &mut K,
@@ -204,7 +203,7 @@ impl Run {
     ) -> Result<(), Stop>
         requires going { IsGoing (keeping self.old) }
         ensures closes { Closes result (keeping self.old) (keeping self.new) (K.state out.old) (K.state out.new) }
-        ensures behind { ClosesBehind result (keeping self.old) (keeping self.new) (K.state out.old) (K.state out.new) }
+        ensures writes { (trace : SinkState) → Writes result (K.state out.old) (K.state out.new) trace trace }
         ensures plan { self.new.engine.state.plan ≡ self.old.engine.state.plan }
     {
         self.lines.clear();

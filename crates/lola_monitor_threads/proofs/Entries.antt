@@ -1,5 +1,5 @@
 -- An entry behind a journal is traced and run, and what becomes of one after another.
-use Rattle.std.proofs.Common.{◌≡◌, ◌⊎◌, ℕ, ◌+◌, ◌<◌, List, [], ◌∷◌, ◌++◌, Option, None, Some, Result, Ok, Err, refl, sym, ap, ◌∙◌, inl, inr, ⊎_elim, arith, append_assoc, subst}
+use Rattle.std.proofs.Common.{◌≡◌, ℕ, ◌+◌, ◌<◌, List, [], ◌∷◌, ◌++◌, Option, None, Some, Result, Ok, Err, refl, sym, ap, ◌∙◌, inl, inr, ⊎_elim, arith, append_assoc, subst}
 use Rattle.std.proofs.lemmas.List.{append-nil}
 use Rattle.std.proofs.lemmas.List.Elements.{All-append, All-push}
 use Rattle.std.specs.Prelude.{OnOk}
@@ -12,16 +12,17 @@ use Rattle.lola_model.specs.declared.journal.Entry.{Entry}
 use Rattle.lola_model.proofs.Journals.{IsLegalFrom-append_left, IsLegalFrom-append_right, merged_from-append, trace_text-append_one}
 use Rattle.lola_engine.specs.Engines.{Brings}
 use Rattle.lola_monitor_run.specs.Verdicts.{AreOfSources, AreTraceable, Setting, settled_fault_in}
-use Rattle.lola_monitor_run.specs.Running.{CutFaultNext, CutNext, Enters, FaultNext, HasRoom, IsAccepted, IsNext, IsSetAs, Keeping, KeptNext, Puts, Takes, WasNotTraced, WasTraced, setting_in}
-use Rattle.lola_monitor_run.specs.Behind.{Beginning, EntersFrom, HasTaken, IsRowFaultBehind, StandsFrom, TakesFromAny, front_of, settled_behind}
+use Rattle.lola_monitor_run.specs.Running.{CutFaultNext, CutNext, FaultNext, HasRoom, IsAccepted, IsNext, IsSetAs, Keeping, KeptNext, Puts, Received, WasNotTraced, Writes, setting_in}
+use Rattle.lola_monitor_run.specs.Behind.{Enters, HasTaken, IsBehind, IsRowFaultBehind, Takes, WasTraced, settled_behind}
 use Rattle.lola_monitor_run.specs.Feeds.{World, world}
 use Rattle.lola_monitor_run.specs.declared.stop.Stop.{Stop}
 use Rattle.lola_monitor_run.specs.declared.stop.Stop.TheVariants as stop
-use Rattle.lola_monitor_run.proofs.Entries.{BringsIn, accepted_is, told_more}
+use Rattle.lola_monitor_run.proofs.EntriesTold.{BringsIn, accepted_is, told_more}
 use Rattle.lola_monitor_run.proofs.Runs.{all_now, fine_now}
 use Rattle.lola_monitor_run.proofs.Sinks.{broke_behind, more_text}
 use Rattle.lola_monitor_run.proofs.Taking.{accepted_append, late_append}
 use Rattle.lola_monitor_run.proofs.TextsBehind.{HasAll, all_put_behind, cut_at_row_behind, has_all_more, last_not_put_behind, settled_more}
+use Rattle.lola_monitor_run.proofs.Writing.{received_more, rose_behind, writes_more}
 use Rattle.lola_monitor_threads.specs.Takings.{HasFailed, HasRun, Halts, IsCutAtFault, IsCutInRow, IsFit, IsOutOfMemory, IsStopped, IsPartlyRun, Place, RunsOne, StopsBy, most_taken, place}
 use Rattle.lola_monitor_threads.specs.declared.halt.Halt.{Halt}
 use Rattle.lola_monitor_threads.specs.declared.halt.Halt.TheVariants as halt
@@ -31,12 +32,12 @@ abbrev world_at : Place → World
 world_at p = world p.kept [] p.out p.trace
 
 -- what stood at first has no fault so far, and has lost no line
-module _ (first : Place) (journal : List Entry) (now : Place) (so : HasRun first journal now) (b : Beginning) (stood : StandsFrom b (front_of b) first.kept) where
-  fine_so_far : settled_fault_in (setting_in first.kept) (front_of b ++ journal) ≡ None
-  fine_so_far = fine_now (world_at first) (world_at now) so.setting b journal (so.stands b stood)
+module _ (first : Place) (journal : List Entry) (now : Place) (so : HasRun first journal now) (before : List Entry) (stood : IsBehind before before first.kept) where
+  fine_so_far : settled_fault_in (setting_in first.kept) (before ++ journal) ≡ None
+  fine_so_far = fine_now (world_at first) (world_at now) so.setting before journal (so.stands before stood)
 
-  all_so_far : HasAll (setting_in first.kept) (front_of b) journal
-  all_so_far = all_now (world_at first) (world_at now) so.setting b journal (so.stands b stood)
+  all_so_far : HasAll (setting_in first.kept) before journal
+  all_so_far = all_now (world_at first) (world_at now) so.setting before journal (so.stands before stood)
 
 module _ (first : Place) (journal : List Entry) (k0 : Keeping) (o0 t0 : SinkState) (so : HasRun first journal (place k0 o0 t0)) (entry : Entry) (told : IsTraceable k0.state.plan entry) where
   told_first : IsTraceable first.kept.state.plan entry
@@ -53,10 +54,11 @@ module _ (first : Place) (journal : List Entry) (k0 : Keeping) (o0 t0 : SinkStat
     inl refl,
     record {
       traceable = so.traceable;
-      by = λ b stood. inl (record {
-        no_fault = fine_so_far first journal (place k0 o0 t0) so b stood;
+      writes = inr (rose_behind first.trace t0 t1 (trace_text journal, so.trace) puts.rose);
+      by = λ before stood. inl (record {
+        no_fault = fine_so_far first journal (place k0 o0 t0) so before stood;
         trace = record { entry = entry; traceable = told_first; cut = subst (λ (t : SinkState). PutBroke t t1 (trace_line entry)) so.trace puts };
-        out = so.out b stood;
+        out = so.out before stood;
       });
     },
   )
@@ -65,9 +67,10 @@ module _ (first : Place) (journal : List Entry) (k0 : Keeping) (o0 t0 : SinkStat
     inl refl,
     record {
       traceable = so.traceable;
-      by = λ b stood. record {
+      writes = (so.received, (trace_text journal, puts ∙ so.trace));
+      by = λ before stood. record {
         trace = puts ∙ so.trace;
-        out = all_put_behind (setting_in first.kept) (front_of b) journal first.out o0 (all_so_far first journal (place k0 o0 t0) so b stood) (so.out b stood);
+        out = all_put_behind (setting_in first.kept) before journal first.out o0 (all_so_far first journal (place k0 o0 t0) so before stood) (so.out before stood);
       };
     },
   )
@@ -77,62 +80,62 @@ module _ (first : Place) (journal : List Entry) (k0 : Keeping) (o0 t0 : SinkStat
     trace_is : t1 ≡ grown first.trace (trace_text (journal ++ entry ∷ []))
     trace_is = more_text _ _ _ _ _ _ so.trace traced (trace_text-append_one journal entry)
 
-    module _ (b : Beginning) (stood : StandsFrom b (front_of b) first.kept) where
-      brings_is : (lines : List (List ℕ)) → Brings k0.state (front_of b ++ journal) entry lines → BringsIn (setting_in first.kept) (front_of b ++ journal) entry lines
-      brings_is lines brings = subst (λ (s : Setting). BringsIn s (front_of b ++ journal) entry lines) so.setting brings
+    module _ (before : List Entry) (stood : IsBehind before before first.kept) where
+      brings_is : (lines : List (List ℕ)) → Brings k0.state (before ++ journal) entry lines → BringsIn (setting_in first.kept) (before ++ journal) entry lines
+      brings_is lines brings = subst (λ (s : Setting). BringsIn s (before ++ journal) entry lines) so.setting brings
 
-      text_is : (lines : List (List ℕ)) → Brings k0.state (front_of b ++ journal) entry lines
-          → settled_behind (setting_in first.kept) (front_of b) (journal ++ entry ∷ []) ≡ settled_behind (setting_in first.kept) (front_of b) journal ++ text_of lines
-      text_is lines brings = settled_more (setting_in first.kept) (front_of b) journal entry lines (brings_is lines brings) (all_so_far first journal (place k0 o0 t0) so b stood)
+      text_is : (lines : List (List ℕ)) → Brings k0.state (before ++ journal) entry lines
+          → settled_behind (setting_in first.kept) before (journal ++ entry ∷ []) ≡ settled_behind (setting_in first.kept) before journal ++ text_of lines
+      text_is lines brings = settled_more (setting_in first.kept) before journal entry lines (brings_is lines brings) (all_so_far first journal (place k0 o0 t0) so before stood)
 
-      all_is : (lines : List (List ℕ)) → Brings k0.state (front_of b ++ journal) entry lines → HasAll (setting_in first.kept) (front_of b) (journal ++ entry ∷ [])
-      all_is lines brings = has_all_more (setting_in first.kept) (front_of b) journal entry lines (brings_is lines brings) (all_so_far first journal (place k0 o0 t0) so b stood)
+      all_is : (lines : List (List ℕ)) → Brings k0.state (before ++ journal) entry lines → HasAll (setting_in first.kept) before (journal ++ entry ∷ [])
+      all_is lines brings = has_all_more (setting_in first.kept) before journal entry lines (brings_is lines brings) (all_so_far first journal (place k0 o0 t0) so before stood)
 
-      fault_is : (o : Option RunFault) → settled_fault_in (setting_in k0) ((front_of b ++ journal) ++ entry ∷ []) ≡ o → settled_fault_in (setting_in first.kept) (front_of b ++ (journal ++ entry ∷ [])) ≡ o
+      fault_is : (o : Option RunFault) → settled_fault_in (setting_in k0) ((before ++ journal) ++ entry ∷ []) ≡ o → settled_fault_in (setting_in first.kept) (before ++ (journal ++ entry ∷ [])) ≡ o
       fault_is o is =
-          ap (settled_fault_in (setting_in first.kept)) (sym (append_assoc (front_of b) journal (entry ∷ [])))
-          ∙ (ap (λ (s : Setting). settled_fault_in s ((front_of b ++ journal) ++ entry ∷ [])) (sym so.setting) ∙ is)
+          ap (settled_fault_in (setting_in first.kept)) (sym (append_assoc before journal (entry ∷ [])))
+          ∙ (ap (λ (s : Setting). settled_fault_in s ((before ++ journal) ++ entry ∷ [])) (sym so.setting) ∙ is)
 
-      row_fault : (fault : RunFault) → IsAccepted entry → settled_fault_in (setting_in k0) ((front_of b ++ journal) ++ entry ∷ []) ≡ Some fault
-          → IsRowFaultBehind (setting_in first.kept) (front_of b) (journal ++ entry ∷ []) fault
+      row_fault : (fault : RunFault) → IsAccepted entry → settled_fault_in (setting_in k0) ((before ++ journal) ++ entry ∷ []) ≡ Some fault
+          → IsRowFaultBehind (setting_in first.kept) before (journal ++ entry ∷ []) fault
       row_fault fault accepted is = record {
         front = journal;
         row = entry.row;
         whole = ap (λ (e : Entry). journal ++ e ∷ []) (accepted_is entry accepted);
-        none_before = fine_so_far first journal (place k0 o0 t0) so b stood;
+        none_before = fine_so_far first journal (place k0 o0 t0) so before stood;
         settled = fault_is (Some fault) is;
       }
 
-      failed : (fault : RunFault) → FaultNext fault (front_of b ++ journal) entry k0 o0 o1 → IsAccepted entry → HasFailed fault (front_of b) first (journal ++ entry ∷ []) (place k1 o1 t1)
+      failed : (fault : RunFault) → FaultNext fault (before ++ journal) entry k0 o0 o1 → IsAccepted entry → HasFailed fault before first (journal ++ entry ∷ []) (place k1 o1 t1)
       failed fault bad accepted = record {
         stands = row_fault fault accepted bad.is_fault;
         trace = trace_is;
-        out = more_text _ _ _ _ _ _ (so.out b stood) bad.out (text_is bad.lines bad.brings);
+        out = more_text _ _ _ _ _ _ (so.out before stood) bad.out (text_is bad.lines bad.brings);
       }
 
-      failed_cut : (fault : RunFault) → CutFaultNext fault (front_of b ++ journal) entry k0 o0 o1 → IsAccepted entry → IsCutAtFault fault (front_of b) first (journal ++ entry ∷ []) (place k1 o1 t1)
+      failed_cut : (fault : RunFault) → CutFaultNext fault (before ++ journal) entry k0 o0 o1 → IsAccepted entry → IsCutAtFault fault before first (journal ++ entry ∷ []) (place k1 o1 t1)
       failed_cut fault bad accepted = record {
         stands = row_fault fault accepted bad.is_fault;
         trace = trace_is;
         out = subst (PutBroke first.out o1) (sym (text_is bad.lines bad.brings))
-            (broke_behind first.out o0 o1 (settled_behind (setting_in first.kept) (front_of b) journal) (text_of bad.lines) (so.out b stood) bad.out);
+            (broke_behind first.out o0 o1 (settled_behind (setting_in first.kept) before journal) (text_of bad.lines) (so.out before stood) bad.out);
       }
 
-      broken : CutNext (front_of b ++ journal) entry k0 o0 o1 → IsAccepted entry → IsCutInRow (front_of b) first (journal ++ entry ∷ []) (place k1 o1 t1)
+      broken : CutNext (before ++ journal) entry k0 o0 o1 → IsAccepted entry → IsCutInRow before first (journal ++ entry ∷ []) (place k1 o1 t1)
       broken c accepted = record {
         no_fault = fault_is None c.fine;
         trace = trace_is;
-        out = cut_at_row_behind (setting_in first.kept) (front_of b) journal entry (text_of c.lines) first.out o0 o1 (all_is c.lines c.brings) accepted (text_is c.lines c.brings) (so.out b stood) c.out;
+        out = cut_at_row_behind (setting_in first.kept) before journal entry (text_of c.lines) first.out o0 o1 (all_is c.lines c.brings) accepted (text_is c.lines c.brings) (so.out before stood) c.out;
       }
 
-      unput : KeptNext (front_of b ++ journal) entry k0 o0 o1 → IsOutOfMemory (front_of b) first (journal ++ entry ∷ []) (place k1 o1 t1)
+      unput : KeptNext (before ++ journal) entry k0 o0 o1 → IsOutOfMemory before first (journal ++ entry ∷ []) (place k1 o1 t1)
       unput c = record {
         trace = trace_is;
-        out = last_not_put_behind (setting_in first.kept) (front_of b) journal entry (text_of c.lines) first.out o1 (all_is c.lines c.brings) (text_is c.lines c.brings) (c.out ∙ so.out b stood);
+        out = last_not_put_behind (setting_in first.kept) before journal entry (text_of c.lines) first.out o1 (all_is c.lines c.brings) (text_is c.lines c.brings) (c.out ∙ so.out before stood);
       }
 
-    ran : TakesFromAny (Ok tt) entry k0 k1 o0 o1 → HasTaken entry k0 k1 → IsSetAs k0 k1 → HasRun first (journal ++ entry ∷ []) (place k1 o1 t1)
-    ran from taken setting =
+    ran : Takes (Ok tt) entry k0 k1 o0 o1 → Received o0 o1 → HasTaken entry k0 k1 → IsSetAs k0 k1 → HasRun first (journal ++ entry ∷ []) (place k1 o1 t1)
+    ran takes received taken setting =
         let more = accepted_append journal (entry ∷ []) in
         let later = late_append journal (entry ∷ []) in
         record {
@@ -144,23 +147,28 @@ module _ (first : Place) (journal : List Entry) (k0 : Keeping) (o0 t0 : SinkStat
           rows = omega (arith, taken.rows, so.rows, more);
           late = omega (arith, taken.late, so.late, later);
           accepted = omega (arith, taken.accepted, so.accepted, more);
-          stands = λ b stood. subst (λ (j : List Entry). StandsFrom b j k1) (append_assoc (front_of b) journal (entry ∷ [])) (from b (front_of b ++ journal) (so.stands b stood)).stands;
-          out = λ b stood.
-              let next = from b (front_of b ++ journal) (so.stands b stood) in
-              more_text _ _ _ _ _ _ (so.out b stood) next.out (text_is b stood next.lines next.brings);
+          received = received_more first.out o0 o1 so.received received;
+          stands = λ before stood. subst (λ (j : List Entry). IsBehind before j k1) (append_assoc before journal (entry ∷ [])) (takes before (before ++ journal) (so.stands before stood)).stands;
+          out = λ before stood.
+              let next = takes before (before ++ journal) (so.stands before stood) in
+              more_text _ _ _ _ _ _ (so.out before stood) next.out (text_is before stood next.lines next.brings);
         }
 
-    stopped : (how : Stop) → ((b : Beginning) → StandsFrom b (front_of b) first.kept → StopsBy how (front_of b) first (journal ++ entry ∷ []) (place k1 o1 t1)) → RunsOne (Err how) first journal entry (place k1 o1 t1)
-    stopped how by = (journal ++ entry ∷ [], inr refl, record { traceable = all_told; by = by })
+    stopped : (how : Stop) → Writes (Err how) o0 o1 t0 t1 → ((before : List Entry) → IsBehind before before first.kept → StopsBy how before first (journal ++ entry ∷ []) (place k1 o1 t1)) → RunsOne (Err how) first journal entry (place k1 o1 t1)
+    stopped how writes by = (
+      journal ++ entry ∷ [],
+      inr refl,
+      record { traceable = all_told; writes = writes_more (Err how) first.out o0 o1 first.trace t0 t1 so.received (trace_text journal, so.trace) writes; by = by },
+    )
 
-    ran_one : (result : Result (Unit {0}) Stop) → Takes result entry k0 k1 o0 o1 → TakesFromAny result entry k0 k1 o0 o1 → OnOk result (HasTaken entry k0 k1) → RunsOne result first journal entry (place k1 o1 t1)
-    ran_one (Ok done) takes from taken = ran from taken takes.1
-    ran_one (Err (stop.Fault stream kind time)) takes from taken = stopped (stop.Fault stream kind time)
-        (λ b stood. failed b stood (record { stream = stream; kind = kind; time = time }) (from b (front_of b ++ journal) (so.stands b stood)) takes.1)
-    ran_one (Err (stop.CutFault stream kind time)) takes from taken = stopped (stop.CutFault stream kind time)
-        (λ b stood. failed_cut b stood (record { stream = stream; kind = kind; time = time }) (from b (front_of b ++ journal) (so.stands b stood)) takes.1)
-    ran_one (Err stop.Put) takes from taken = stopped stop.Put (λ b stood. inr (broken b stood (from b (front_of b ++ journal) (so.stands b stood)) takes.1))
-    ran_one (Err stop.Memory) takes from taken = stopped stop.Memory (λ b stood. unput b stood (from b (front_of b ++ journal) (so.stands b stood)))
+    ran_one : (result : Result (Unit {0}) Stop) → Takes result entry k0 k1 o0 o1 → Writes result o0 o1 t0 t1 → OnOk result (HasTaken entry k0 k1) → IsSetAs k0 k1 → RunsOne result first journal entry (place k1 o1 t1)
+    ran_one (Ok done) takes writes taken setting = ran takes writes.0 taken setting
+    ran_one (Err (stop.Fault stream kind time)) takes writes taken setting = stopped (stop.Fault stream kind time) writes
+        (λ before stood. failed before stood (record { stream = stream; kind = kind; time = time }) (takes.0 before (before ++ journal) (so.stands before stood)) takes.1)
+    ran_one (Err (stop.CutFault stream kind time)) takes writes taken setting = stopped (stop.CutFault stream kind time) writes
+        (λ before stood. failed_cut before stood (record { stream = stream; kind = kind; time = time }) (takes.0 before (before ++ journal) (so.stands before stood)) takes.1)
+    ran_one (Err stop.Put) takes writes taken setting = stopped stop.Put writes (λ before stood. inr (broken before stood (takes.0 before (before ++ journal) (so.stands before stood)) takes.1))
+    ran_one (Err stop.Memory) takes writes taken setting = stopped stop.Memory writes (λ before stood. unput before stood (takes before (before ++ journal) (so.stands before stood)))
 
 -- an entry was to be traced and run
 module _ (first : Place) (journal : List Entry) (k0 k1 : Keeping) (o0 o1 t0 t1 : SinkState) (so : HasRun first journal (place k0 o0 t0)) (entry : Entry) (result : Result (Unit {0}) Stop) where
@@ -170,13 +178,11 @@ module _ (first : Place) (journal : List Entry) (k0 k1 : Keeping) (o0 o1 t0 t1 :
       (subst (λ (k : Keeping). RunsOne (Err n.how) first journal entry (place k o1 t1)) (sym n.kept)
       (subst (λ (o : SinkState). RunsOne (Err n.how) first journal entry (place k0 o t1)) (sym n.out) (not_traced first journal k0 o0 t0 so entry told t1 n.how n.puts)))
 
-  pub ran_entered : Enters result entry k0 k1 o0 o1 t0 t1 → EntersFrom result entry k0 k1 o0 o1 t0 t1 → OnOk result (HasTaken entry k0 k1) → RunsOne result first journal entry (place k1 o1 t1)
-  ran_entered e from taken = by_both e.does from
-    where
-      by_both : WasNotTraced result entry k0 k1 o0 o1 t0 t1 ⊎ WasTraced result entry k0 k1 o0 o1 t0 t1 → EntersFrom result entry k0 k1 o0 o1 t0 t1 → RunsOne result first journal entry (place k1 o1 t1)
-      by_both (inl n) f = was_not_traced e.told n
-      by_both (inr w) (inl n) = was_not_traced e.told n
-      by_both (inr w) (inr f) = ran_one first journal k0 o0 t0 so entry e.told k1 o1 t1 w.trace result w.takes f.takes taken
+  pub ran_entered : Enters result entry k0 k1 o0 o1 t0 t1 → Writes result o0 o1 t0 t1 → OnOk result (HasTaken entry k0 k1) → IsSetAs k0 k1 → RunsOne result first journal entry (place k1 o1 t1)
+  ran_entered e writes taken setting = ⊎_elim
+      (λ (n : WasNotTraced result entry k0 k1 o0 o1 t0 t1). was_not_traced e.told n)
+      (λ (w : WasTraced result entry k0 k1 o0 o1 t0 t1). ran_one first journal k0 o0 t0 so entry e.told k1 o1 t1 w.trace result w.takes writes taken setting)
+      e.does
 
 -- one entry more, of one of so many sources
 of_sources_more : (count : ℕ) (journal : List Entry) (entry : Entry) → AreOfSources count journal → entry.row.source < count → AreOfSources count (journal ++ entry ∷ [])

@@ -13,7 +13,7 @@ use Rattle.lola_merge.specs.declared.state.Offer.{Offer}
 use Rattle.lola_merge.specs.declared.state.Offer.TheVariants as reply
 use Rattle.lola_feed.specs.declared.intake.Finish.{Finish}
 use Rattle.lola_feed.specs.declared.intake.Finish.TheVariants as finish
-use Rattle.lola_feed.specs.SharedIntakes.{FinishesBy, IsSameSeat, OffersBy, SeatShown, SeatedAt, SettlesBy, after_finish, after_offer, is_owed, new_desk}
+use Rattle.lola_feed.specs.SharedIntakes.{FinishesBy, IsSameSeat, OffersBy, SeatShown, SeatedAt, FinishesOwedBy, after_finish, after_offer, is_owed, new_desk}
 use Rattle.lola_feed.specs.Feeding.{Begun, IsLetIn, IsNext, Looks, Turns, Working, end_of, handed_in, led_by, to_come, without}
 use Rattle.lola_feed.specs.declared.worker.SourceEnd as worker
 use Rattle.lola_feed.specs.declared.worker.SourceEnd.TheVariants as end
@@ -353,12 +353,12 @@ module _ (w : Working) (d0 d1 : SeatedAt) (at : IsSeated w d0) where
         record { source = at.source ∙ sym same.source; untold = subst (IsUntold w.end) (sym (ap (λ (d : SeatedAt). d.told) is)) at.untold },
       )
 
-  settled : (done : Bool) → SettlesBy done d0 d1 → (owes : Bool) → d0.owes ≡ owes → GoesOnSo w d0 d1
+  settled : (done : Bool) → FinishesOwedBy done d0 d1 → (owes : Bool) → d0.owes ≡ owes → GoesOnSo w d0 d1
   settled done by true is = let s = by.owed is in settled_some s.1.0 s.0 s.1.1
   settled done by false is = settled_none (by.none is)
 
-  pub settle_goes_on : (done : Bool) → SettlesBy done d0 d1 → WentOn (seated w d0.seat) (seated w d1.seat)
-  settle_goes_on done by = (settled done by d0.owes refl).0
+  pub finish_owed_goes_on : (done : Bool) → FinishesOwedBy done d0 d1 → WentOn (seated w d0.seat) (seated w d1.seat)
+  finish_owed_goes_on done by = (settled done by d0.owes refl).0
 
-  pub settle_stays : (done : Bool) → SettlesBy done d0 d1 → IsSeated w d1
-  settle_stays done by = (settled done by d0.owes refl).1
+  pub finish_owed_stays : (done : Bool) → FinishesOwedBy done d0 d1 → IsSeated w d1
+  finish_owed_stays done by = (settled done by d0.owes refl).1

@@ -11,7 +11,7 @@ use Rattle.lola_feed.specs.SharedIntakes.{AreNewSeats, AreSeatsOf, IntakeId, IsW
 use Rattle.lola_feed.specs.Feeding.{Working}
 use Rattle.lola_monitor_run.specs.Verdicts.{AreOfSources}
 use Rattle.lola_monitor_run.specs.Running.{IsGoing, Keeping, setting_in}
-use Rattle.lola_monitor_run.specs.Behind.{HasTakenNone, StandsFrom, front_of}
+use Rattle.lola_monitor_run.specs.Behind.{HasTakenNone, IsBehind}
 use Rattle.lola_monitor_run.proofs.Sinks.{grown_nil}
 use Rattle.lola_monitor_run.proofs.TextsBehind.{nothing_behind}
 use Rattle.lola_monitor_run.specs.Feeds.{AreInPlace, AreReady, World, supply_of, world}
@@ -20,6 +20,7 @@ use Rattle.lola_monitor_threads.specs.Takings.{Halts, HasRun, HasRunTaken, IsNew
 use Rattle.lola_monitor_threads.specs.Joining.{Joins}
 use Rattle.lola_monitor_threads.specs.declared.halt.Halt.{Halt}
 use Rattle.lola_monitor_threads.specs.declared.halt.Halt.TheVariants as halt
+use Rattle.lola_monitor_run.proofs.Writing.{received_none}
 use Rattle.lola_monitor_threads.proofs.Joined.{AreJoined, joins}
 use Rattle.lola_monitor_threads.proofs.Places.{reverse_zip, zip_long}
 use Rattle.lola_monitor_threads.proofs.Seating.{as_many, in_place, joined, own_seats}
@@ -35,8 +36,9 @@ not_yet_run kept out trace none = record {
   rows = omega (arith, none.rows);
   late = none.late;
   accepted = none.accepted;
-  stands = λ b stood. subst (λ (j : List Entry). StandsFrom b j kept) (sym (append-nil (front_of b))) stood;
-  out = λ b stood. sym (grown_nil out) ∙ ap (grown out) (sym (nothing_behind (setting_in kept) (front_of b)));
+  received = received_none out;
+  stands = λ before stood. subst (λ (j : List Entry). IsBehind before j kept) (sym (append-nil before)) stood;
+  out = λ before stood. sym (grown_nil out) ∙ ap (grown out) (sym (nothing_behind (setting_in kept) before));
 }
 
 -- a run all of whose rows were taken goes on

@@ -8,8 +8,8 @@ use Rattle.lola_model.specs.Trace.{input_kinds, trace_text}
 use Rattle.lola_model.specs.declared.journal.Entry.{Entry}
 use Rattle.lola_feed.specs.SharedIntakes.{IntakeId, TakerShown, new_taker}
 use Rattle.lola_monitor_run.specs.Verdicts.{AreOfSources, AreTraceable, IsCutInLine, late_count, settled_fault_in}
-use Rattle.lola_monitor_run.specs.Running.{IsGoing, IsRowFor, IsSetAs, Keeping, setting_in}
-use Rattle.lola_monitor_run.specs.Behind.{Beginning, HasFrontBehind, IsCutAtRowBehind, IsRowFaultBehind, StandsFrom, front_of, settled_behind}
+use Rattle.lola_monitor_run.specs.Running.{IsGoing, IsRowFor, IsSetAs, Keeping, Received, Writes, setting_in}
+use Rattle.lola_monitor_run.specs.Behind.{HasFrontBehind, IsBehind, IsCutAtRowBehind, IsRowFaultBehind, settled_behind}
 use Rattle.lola_monitor_run.specs.declared.stop.Stop.{Stop}
 use Rattle.lola_monitor_run.specs.declared.stop.Stop.TheVariants as stop
 use Rattle.lola_monitor_threads.specs.declared.halt.Halt.{Halt}
@@ -35,8 +35,9 @@ pub record HasRun (first : Place) (journal : List Entry) (now : Place) : Type 0 
   pub rows : now.kept.state.rows ≤ length (accepted journal) + 1
   pub late : now.kept.late ≡ late_count journal
   pub accepted : now.kept.accepted ≡ length (accepted journal)
-  pub stands : (b : Beginning) → StandsFrom b (front_of b) first.kept → StandsFrom b (front_of b ++ journal) now.kept
-  pub out : (b : Beginning) → StandsFrom b (front_of b) first.kept → now.out ≡ grown first.out (settled_behind (setting_in first.kept) (front_of b) journal)
+  pub received : Received first.out now.out
+  pub stands : (before : List Entry) → IsBehind before before first.kept → IsBehind before (before ++ journal) now.kept
+  pub out : (before : List Entry) → IsBehind before before first.kept → now.out ≡ grown first.out (settled_behind (setting_in first.kept) before journal)
 
 -- the last of them has a fault
 pub record HasFailed (fault : RunFault) (before : List Entry) (first : Place) (journal : List Entry) (now : Place) : Type 0 where
@@ -77,7 +78,8 @@ StopsBy stop.Memory before first journal now = IsOutOfMemory before first journa
 -- how a run is stopped at a journal, whatever it stood for at first
 pub record StopsAt (how : Stop) (first : Place) (journal : List Entry) (now : Place) : Type 0 where
   pub traceable : AreTraceable first.kept.state.plan journal
-  pub by : (b : Beginning) → StandsFrom b (front_of b) first.kept → StopsBy how (front_of b) first journal now
+  pub writes : Writes (Err how) first.out now.out first.trace now.trace
+  pub by : (before : List Entry) → IsBehind before before first.kept → StopsBy how before first journal now
 
 -- an entry behind a journal was traced and run, or what stopped the run at it
 abbrev pub RunsOne : Result (Unit {0}) Stop → Place → List Entry → Entry → Place → Type 0

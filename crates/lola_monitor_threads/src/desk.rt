@@ -3,7 +3,7 @@ ghost use Rattle.std.specs.Prelude.{◌≡◌};
 ghost use Rattle.lola_monitor_threads.specs.Seated.{WentOn};
 
 use crate::board::Board;
-use crate::seated::{SeatedWorker, begin_or_look_at, settle_at, turn_at};
+use crate::seated::{SeatedWorker, begin_or_look_at, finish_owed_at, turn_at};
 use lola_feed::SeatDesk;
 use lola_feed::intake::{IntakeSeat, SourceIntake};
 use lola_feed::worker::{SourceWorker, TurnEnd};
@@ -139,10 +139,10 @@ impl<'a, S: Source, P: IntakeSeat, I: SourceIntake<P>, R: Wait + Sync> DeskWorke
     }
 
     // Tells the intake that the source has ended, where it had no room for that before.
-    fn settle(&mut self)
+    fn finish_owed(&mut self)
         ensures { WentOn self.old self.new }
     {
-        settle_at(&self.worker, &mut self.desk);
+        finish_owed_at(&self.worker, &mut self.desk);
     }
 
     /// Looks at the next row of the source, where it was not looked at and can be read at once. Of a source that has ended the intake
@@ -153,7 +153,7 @@ impl<'a, S: Source, P: IntakeSeat, I: SourceIntake<P>, R: Wait + Sync> DeskWorke
         if self.comes_within(0) {
             self.look(board);
         } else {
-            self.settle();
+            self.finish_owed();
         }
     }
 

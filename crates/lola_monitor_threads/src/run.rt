@@ -6,8 +6,8 @@ ghost use Rattle.lola_model.specs.Journal.{opening_time};
 ghost use Rattle.lola_model.specs.Trace.{input_kinds};
 ghost use Rattle.lola_model.specs.declared.journal.Entry.{Entry};
 ghost use Rattle.lola_feed.specs.SharedIntakes.{AreNewSeats, new_taker};
-ghost use Rattle.lola_monitor_run.specs.Running.{IsGoing, Stands, keeping};
-ghost use Rattle.lola_monitor_run.specs.Feeds.{AreInPlace, AreReady, EndsRun, World, supply_of, world};
+ghost use Rattle.lola_monitor_run.specs.Running.{IsGoing, keeping};
+ghost use Rattle.lola_monitor_run.specs.Feeds.{AreInPlace, AreReady, RunEnds, World, supply_of, world};
 ghost use Rattle.lola_monitor_run.specs.Behind.{EndsBehind, HasTakenNone, IsBehind};
 ghost use Rattle.lola_monitor_threads.specs.Joining.{Joins};
 ghost use Rattle.lola_monitor_threads.specs.Seated.{IsNewPair, SomeOutOfMemory, all_seated};
@@ -26,7 +26,7 @@ use lola_feed::intake::{IntakeSeat, IntakeTaker, SharedIntake};
 use lola_feed::worker::{SourceEnd, SourceWorker};
 use lola_merge::batch::Batch;
 use lola_model::plan::Plan;
-use lola_monitor_run::rounds_law::{stopped_runs_end, stopped_runs_end_behind};
+use lola_monitor_run::rounds_law::stopped_runs_end;
 use lola_monitor_run::rows::run_out;
 use lola_monitor_run::run::Run;
 use lola_monitor_run::stop::Stop;
@@ -188,7 +188,7 @@ fn any_out_of_memory<S: Source>(workers: &[SourceWorker<S>]) -> bool
 }
 
 // What a run ends with, whatever it stood for at first, once all rows of its sources came or it was stopped, and all threads were joined.
-fn settle<R: Threads + Sync, S: Source, K: Sink, G: Gate + Sync>(
+fn run_end<R: Threads + Sync, S: Source, K: Sink, G: Gate + Sync>(
     rt: &R,
     run: &mut Run,
     workers: &[SourceWorker<S>],
@@ -198,8 +198,8 @@ fn settle<R: Threads + Sync, S: Source, K: Sink, G: Gate + Sync>(
 ) -> Result<(), Stop>
     requires going { OnOk halted (IsGoing (keeping run.old)) }
     requires fit { halted ≡ Err halt.Unfit → ⊥ }
-    ensures run { (first : World) (trace : SinkState) → Joins halted first (world (keeping run.old) (map supply_of workers.now) (K.state out.old) trace)
-        → Stands [] first.kept → EndsRun false result first (world (keeping run.new) (map supply_of workers.now) (K.state out.new) trace) }
+    ensures ends { (first : World) (trace : SinkState) → Joins halted first (world (keeping run.old) (map supply_of workers.now) (K.state out.old) trace)
+        → RunEnds result first (world (keeping run.new) (map supply_of workers.now) (K.state out.new) trace) }
     ensures behind { (first : World) (trace : SinkState) → Joins halted first (world (keeping run.old) (map supply_of workers.now) (K.state out.old) trace)
         → (before : List Entry) → IsBehind before before first.kept
         → EndsBehind false before result first (world (keeping run.new) (map supply_of workers.now) (K.state out.new) trace) }
@@ -214,7 +214,6 @@ fn settle<R: Threads + Sync, S: Source, K: Sink, G: Gate + Sync>(
         }
         Err(Halt::Stopped(stop)) => {
             stopped_runs_end();
-            stopped_runs_end_behind();
             Err(stop)
         }
         Err(Halt::Unfit) => unreachable!(),
@@ -249,7 +248,7 @@ fn run_room<
     requires waiting { (room.waiting.items ≡ []) × (length workers.items ≤ vec_capacity room.waiting) }
     requires back { (room.back.items ≡ []) × (length workers.items ≤ vec_capacity room.back) }
     requires left { room.left ≡ [] }
-    ensures run { Stands [] (keeping run.old) → EndsRun false result.1 (world (keeping run.old) (map supply_of workers.items) (K.state out.old) (T.state trace.old))
+    ensures ends { RunEnds result.1 (world (keeping run.old) (map supply_of workers.items) (K.state out.old) (T.state trace.old))
         (world (keeping run.new) (map supply_of result.0.items) (K.state out.new) (T.state trace.new)) }
     ensures behind { (before : List Entry) → IsBehind before before (keeping run.old)
         → EndsBehind false before result.1 (world (keeping run.old) (map supply_of workers.items) (K.state out.old) (T.state trace.old))
@@ -278,45 +277,8 @@ fn run_room<
     );
     take_apart(back, &mut workers, &mut seats);
     taker.end(rt, intake, seats, &mut left);
-    let stopped = settle(rt, run, workers.as_slice(), halted, out, gate);
+    let stopped = run_end(rt, run, workers.as_slice(), halted, out, gate);
     (workers, stopped)
-}
-
-// Runs all rows of sources, and then the deadlines at the last stamp, for a run that has begun or goes on.
-fn run_all<
-    P: IntakeSeat + Send,
-    Q: IntakeTaker,
-    I: SharedIntake<P, Q> + Sync,
-    R: Threads + Wait + Sync,
-    S: Source + Send,
-    K: Sink,
-    T: Sink,
-    G: Gate + Sync,
->(
-    rt: &R,
-    alloc: Global,
-    run: &mut Run,
-    workers: Vec<SourceWorker<S>>,
-    start: Option<u64>,
-    out: &mut K,
-    trace: &mut T,
-    gate: &G,
-) -> (Vec<SourceWorker<S>>, Result<(), Stop>)
-    requires none { HasTakenNone (keeping run.old) }
-    requires ready { AreReady (keeping run.old).state.plan workers.items }
-    requires start { opening_time start ≡ (keeping run.old).state.merged }
-    ensures run { Stands [] (keeping run.old) → EndsRun false result.1 (world (keeping run.old) (map supply_of workers.items) (K.state out.old) (T.state trace.old))
-        (world (keeping run.new) (map supply_of result.0.items) (K.state out.new) (T.state trace.new)) }
-    ensures behind { (before : List Entry) → IsBehind before before (keeping run.old)
-        → EndsBehind false before result.1 (world (keeping run.old) (map supply_of workers.items) (K.state out.old) (T.state trace.old))
-        (world (keeping run.new) (map supply_of result.0.items) (K.state out.new) (T.state trace.new)) }
-    ensures places { AreInPlace workers.items result.0.items }
-    ensures plan { (keeping run.new).state.plan ≡ (keeping run.old).state.plan }
-{
-    match Room::<S, P, Q, I>::create(alloc, run.plan(), workers.len() as u32, start) {
-        Ok(room) => run_room(rt, alloc, room, run, workers, out, trace, gate),
-        Err(_) => (workers, Err(Stop::Memory)),
-    }
 }
 
 /// Runs all rows of sources, and then the deadlines at the last stamp, unless a row has a fault or the run was cut short. The calling thread
@@ -325,40 +287,9 @@ fn run_all<
 /// order in which they are handed in, which may be any that keeps the order of each source; it is that of stamp and source, as far as nobody
 /// has to wait for a source that is silent. What ends the run ends it at once, also where sources are silent, but for a source whose thread waits
 /// in a read. The workers come back as their turns left them.
-pub fn run_in_threads<
-    P: IntakeSeat + Send,
-    Q: IntakeTaker,
-    I: SharedIntake<P, Q> + Sync,
-    R: Threads + Wait + Sync,
-    S: Source + Send,
-    K: Sink,
-    T: Sink,
-    G: Gate + Sync,
->(
-    rt: &R,
-    alloc: Global,
-    run: &mut Run,
-    workers: Vec<SourceWorker<S>>,
-    start: Option<u64>,
-    out: &mut K,
-    trace: &mut T,
-    gate: &G,
-) -> (Vec<SourceWorker<S>>, Result<(), Stop>)
-    requires stands { Stands [] (keeping run.old) }
-    requires ready { AreReady (keeping run.old).state.plan workers.items }
-    requires start { start ≡ (keeping run.old).state.given_start }
-    ensures run { EndsRun false result.1 (world (keeping run.old) (map supply_of workers.items) (K.state out.old) (T.state trace.old))
-        (world (keeping run.new) (map supply_of result.0.items) (K.state out.new) (T.state trace.new)) }
-    ensures places { AreInPlace workers.items result.0.items }
-    ensures plan { (keeping run.new).state.plan ≡ (keeping run.old).state.plan }
-{
-    run_all::<P, Q, I, R, S, K, T, G>(rt, alloc, run, workers, start, out, trace, gate)
-}
-
-/// Runs all rows of sources as `run_in_threads` does, and then the deadlines at the last stamp, in a run that goes on: whatever journal others
-/// had taken, the rows come behind it, and the deadlines at its last stamp are still to be run, also where no row comes. `start` is the time
-/// that was merged: the stamp of the last accepted row, or else the start; a row before it is late. The workers come back as their turns left
-/// them.
+/// The run is new or goes on: whatever journal others had taken, the rows come behind it, and the deadlines at its last stamp are still to
+/// be run, also where no row comes. `start` is the time that was merged: the stamp of the last accepted row, or else the start; a row before
+/// it is late.
 pub fn resume_in_threads<
     P: IntakeSeat + Send,
     Q: IntakeTaker,
@@ -384,8 +315,13 @@ pub fn resume_in_threads<
     ensures run { (before : List Entry) → IsBehind before before (keeping run.old)
         → EndsBehind false before result.1 (world (keeping run.old) (map supply_of workers.items) (K.state out.old) (T.state trace.old))
         (world (keeping run.new) (map supply_of result.0.items) (K.state out.new) (T.state trace.new)) }
+    ensures ends { RunEnds result.1 (world (keeping run.old) (map supply_of workers.items) (K.state out.old) (T.state trace.old))
+        (world (keeping run.new) (map supply_of result.0.items) (K.state out.new) (T.state trace.new)) }
     ensures places { AreInPlace workers.items result.0.items }
     ensures plan { (keeping run.new).state.plan ≡ (keeping run.old).state.plan }
 {
-    run_all::<P, Q, I, R, S, K, T, G>(rt, alloc, run, workers, start, out, trace, gate)
+    match Room::<S, P, Q, I>::create(alloc, run.plan(), workers.len() as u32, start) {
+        Ok(room) => run_room(rt, alloc, room, run, workers, out, trace, gate),
+        Err(_) => (workers, Err(Stop::Memory)),
+    }
 }

@@ -73,7 +73,7 @@ fn look_at<S: Source, P: IntakeSeat, I: SourceIntake<P>, R: Wait + Sync>(
     ensures went { WentOn (seated worker.old desk.old.seat) (seated worker.new desk.new.seat) }
     ensures at { IsSeated worker.new desk.new }
 {
-    worker.hold(desk)
+    worker.look_ahead(desk)
 }
 
 /// Looks at the next row of a source, or reads the heading before the first.
@@ -105,7 +105,7 @@ pub fn turn_at<S: Source, P: IntakeSeat, I: SourceIntake<P>, R: Wait + Sync>(
 }
 
 /// Tells the intake that a source has ended, where it had no room for that before. It tells whether nothing is left to be told.
-pub fn settle_at<S: Source, P: IntakeSeat, I: SourceIntake<P>, R: Wait + Sync>(
+pub fn finish_owed_at<S: Source, P: IntakeSeat, I: SourceIntake<P>, R: Wait + Sync>(
     worker: &SourceWorker<S>,
     desk: &mut SeatDesk<'_, P, I, R>,
 ) -> bool
@@ -114,11 +114,11 @@ pub fn settle_at<S: Source, P: IntakeSeat, I: SourceIntake<P>, R: Wait + Sync>(
     ensures at { IsSeated worker.now desk.new }
 {
     let _ = worker;
-    desk.settle()
+    desk.finish_owed()
 }
 
 // Tells the intake that a source has ended, where it had no room for that before. Its thread waits for room meanwhile.
-fn settle_all<S: Source, P: IntakeSeat, I: SourceIntake<P>, R: Wait + Sync>(
+fn finish_all_owed<S: Source, P: IntakeSeat, I: SourceIntake<P>, R: Wait + Sync>(
     rt: &R,
     worker: &SourceWorker<S>,
     desk: &mut SeatDesk<'_, P, I, R>,
@@ -131,7 +131,7 @@ fn settle_all<S: Source, P: IntakeSeat, I: SourceIntake<P>, R: Wait + Sync>(
 {
     let mut times: u32 = 0;
     for _ in rt.forever() {
-        if settle_at(worker, desk) {
+        if finish_owed_at(worker, desk) {
             board.row_is_in(source, times);
             return;
         }
@@ -284,7 +284,7 @@ impl<S: Source, P: IntakeSeat> SeatedWorker<S, P> {
         let source = held.source();
         let mut desk = SeatDesk::create(rt, intake, held);
         run_at(rt, &mut worker, &mut desk, source, gate, board);
-        settle_all(rt, &worker, &mut desk, source, board);
+        finish_all_owed(rt, &worker, &mut desk, source, board);
         SeatedWorker {
             worker,
             held: desk.into_held(),

@@ -1,5 +1,5 @@
 use Rattle.std.proofs.Common.{◌≡◌, length}
-use Rattle.lola_monitor_run.specs.Running.{IsSetAs, keeping}
+use Rattle.lola_monitor_run.specs.Running.{IsSetAs, Received, keeping}
 use Rattle.lola_monitor_run.specs.Feeds.{AreInPlace, IsIdle, supplies_of, world}
 use Rattle.lola_monitor_run.specs.Turning.{InRound}
 use Rattle.lola_monitor_run.proofs.rows.run_round.Given as goal
@@ -14,4 +14,6 @@ invariant-loop-source g l =
       idle : IsIdle l.feed (keeping l.run);
       places : AreInPlace l.fn.feed.workers l.feed.workers;
       setting : IsSetAs (keeping l.fn.run) (keeping l.run);
+      received : Received (out l.fn.out) (out l.out);
+      traced : Received (trace l.fn.trace) (trace l.trace);
     }

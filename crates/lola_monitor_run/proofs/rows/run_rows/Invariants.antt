@@ -1,5 +1,5 @@
 use Rattle.std.proofs.Common.{ℕ}
-use Rattle.lola_monitor_run.specs.Running.{keeping}
+use Rattle.lola_monitor_run.specs.Running.{Received, keeping}
 use Rattle.lola_monitor_run.specs.Feeds.{AreInPlace, IsIdle, supplies_of, world}
 use Rattle.lola_monitor_run.specs.Turning.{SoFar, left_of}
 use Rattle.lola_monitor_run.proofs.rows.run_rows.Given as goal
@@ -12,6 +12,8 @@ invariant-loop-stop g l =
       so_far : (round : ℕ) × SoFar (world (keeping l.fn.run) (supplies_of l.fn.feed) (out l.fn.out) (trace l.fn.trace)) round 0 (world (keeping l.run) (supplies_of l.feed) (out l.out) (trace l.trace));
       idle : IsIdle l.feed (keeping l.run);
       places : AreInPlace l.fn.feed.workers l.feed.workers;
+      received : Received (out l.fn.out) (out l.out);
+      traced : Received (trace l.fn.trace) (trace l.trace);
     }
 
 abbrev pub decreases-loop-stop : goal.decreases-loop-stop

@@ -1,16 +1,17 @@
 use Rattle.std.proofs.Common.{ℕ, false, List, [], length, map, sym, ap, ◌∙◌, subst, arith, rules}
 use Rattle.std.proofs.lemmas.List.{length-map}
 use Rattle.lola_model.specs.declared.journal.Entry.{Entry}
-use Rattle.lola_monitor_run.specs.Running.{Stands, keeping}
-use Rattle.lola_monitor_run.specs.Behind.{EndsBehind, Following, IsBehind}
-use Rattle.lola_monitor_run.specs.Feeds.{EndsRun, supply_of, world}
+use Rattle.lola_monitor_run.specs.Running.{keeping}
+use Rattle.lola_monitor_run.specs.Behind.{EndsBehind, IsBehind}
+use Rattle.lola_monitor_run.specs.Feeds.{RunEnds, supply_of, world}
 use Rattle.lola_monitor_threads.specs.Joining.{HaveFlags}
 use Rattle.lola_monitor_threads.specs.Takings.{Taking}
 use Rattle.lola_monitor_threads.proofs.Places.{zip_long}
 use Rattle.lola_monitor_threads.specs.Seated.{WentOn}
 use Rattle.lola_monitor_threads.proofs.Seating.{as_many, at_intake, have_flags, in_pairs}
 use Rattle.lola_monitor_threads.proofs.Threading.{backs_many, ends_with, goes_on, has_joined, has_run_none, is_fit, places_kept, seats_back}
-use Rattle.lola_monitor_threads.proofs.Settling.{never_went, never_went_first}
+use Rattle.lola_monitor_run.proofs.Writing.{ends_at_first}
+use Rattle.lola_monitor_threads.proofs.Settling.{never_went}
 use Rattle.lola_monitor_threads.proofs.run.run_room.Goals as goal
 
 pub seat_all-requires-clause-pairs : goal.seat_all-requires-clause-pairs
@@ -55,35 +56,35 @@ end-requires-clause-all g c =
     c.take_apart.new.workers.items (map g.P.IntakeSeat.shows c.take_apart.new.seats.items) c.seat_all.ensures.seated c.send_all-back.ensures.back c.take_apart.ensures.seated (c.take_apart.ensures.many.0, length-map c.take_apart.new.seats.items g.P.IntakeSeat.shows ∙ c.take_apart.ensures.many.1)
     ∙ sym (c.send_all-back.ensures.seat.sources ∙ ap (λ (t : Taking). t.seat.sources) c.requires.taker.made)
 
-pub settle-stopped-requires-clause-going : goal.settle-stopped-requires-clause-going
-settle-stopped-requires-clause-going g c κs within =
+pub run_end-stopped-requires-clause-going : goal.run_end-stopped-requires-clause-going
+run_end-stopped-requires-clause-going g c κs within =
     goes_on (keeping c.args.run.now) (g.I.SourceIntake.id c.args.room.intake) c.args.workers.items (map g.P.IntakeSeat.shows c.args.room.seats.items) c.requires.ready c.requires.seats c.seat_all.new.waiting.items c.send_all-back.result.0.items
     c.take_apart.new.workers.items (map g.P.IntakeSeat.shows c.take_apart.new.seats.items) c.seat_all.ensures.seated c.send_all-back.ensures.back c.take_apart.ensures.seated (c.take_apart.ensures.many.0, length-map c.take_apart.new.seats.items g.P.IntakeSeat.shows ∙ c.take_apart.ensures.many.1)
     c.args.room.taker c.requires.taker c.send_all-back.new.taker.seat c.send_all-back.ensures.seat c.end.new.left c.end.ensures
     (keeping c.send_all-back.new.run) (g.K.Sink.state c.args.out.now) (g.K.Sink.state c.send_all-back.new.out) (g.T.Sink.state c.args.trace.now) (g.T.Sink.state c.send_all-back.new.trace)
     c.send_all-back.result.1 c.send_all-back.ensures.halts c.send_all-back.ensures.done c.requires.none
 
-pub settle-stopped-requires-clause-fit : goal.settle-stopped-requires-clause-fit
-settle-stopped-requires-clause-fit g c κs within =
+pub run_end-stopped-requires-clause-fit : goal.run_end-stopped-requires-clause-fit
+run_end-stopped-requires-clause-fit g c κs within =
     is_fit (keeping c.args.run.now) (g.I.SourceIntake.id c.args.room.intake) c.args.workers.items (map g.P.IntakeSeat.shows c.args.room.seats.items) c.requires.ready c.requires.seats c.seat_all.new.waiting.items c.send_all-back.result.0.items
     c.take_apart.new.workers.items (map g.P.IntakeSeat.shows c.take_apart.new.seats.items) c.seat_all.ensures.seated c.send_all-back.ensures.back c.take_apart.ensures.seated (c.take_apart.ensures.many.0, length-map c.take_apart.new.seats.items g.P.IntakeSeat.shows ∙ c.take_apart.ensures.many.1)
     c.args.room.taker c.requires.taker c.send_all-back.new.taker.seat c.send_all-back.ensures.seat c.end.new.left c.end.ensures
     (keeping c.send_all-back.new.run) (g.K.Sink.state c.args.out.now) (g.K.Sink.state c.send_all-back.new.out) (g.T.Sink.state c.args.trace.now) (g.T.Sink.state c.send_all-back.new.trace)
     c.send_all-back.result.1 c.send_all-back.ensures.halts c.send_all-back.ensures.done c.requires.none
 
-pub returns-in_default-clause-run : goal.returns-in_default-clause-run
-returns-in_default-clause-run g c = never_went_first (keeping c.args.run.now) c.args.workers.items (g.K.Sink.state c.args.out.now) (g.T.Sink.state c.args.trace.now) c.requires.none c.requires.ready
+pub returns-in_default-clause-ends : goal.returns-in_default-clause-ends
+returns-in_default-clause-ends g c = ends_at_first (world (keeping c.args.run.now) (map supply_of c.args.workers.items) (g.K.Sink.state c.args.out.now) (g.T.Sink.state c.args.trace.now))
 
 pub returns-in_default-clause-behind : goal.returns-in_default-clause-behind
 returns-in_default-clause-behind g c = λ before stood.
-    never_went (keeping c.args.run.now) c.args.workers.items (g.K.Sink.state c.args.out.now) (g.T.Sink.state c.args.trace.now) c.requires.none c.requires.ready (Following before) stood
+    never_went (keeping c.args.run.now) c.args.workers.items (g.K.Sink.state c.args.out.now) (g.T.Sink.state c.args.trace.now) c.requires.none c.requires.ready before stood
 
-pub returns-clause-run : goal.returns-clause-run
-returns-clause-run g c =
-    ends_with c.send_all-back.result.1 (λ first last. Stands [] first.kept → EndsRun false c.settle-stopped.result first last)
+pub returns-clause-ends : goal.returns-clause-ends
+returns-clause-ends g c =
+    ends_with c.send_all-back.result.1 (λ first last. RunEnds c.run_end-stopped.result first last)
     (world (keeping c.args.run.now) (map supply_of c.args.workers.items) (g.K.Sink.state c.args.out.now) (g.T.Sink.state c.args.trace.now))
-    (keeping c.send_all-back.new.run) (keeping c.settle-stopped.new.run) (g.K.Sink.state c.send_all-back.new.out) (g.K.Sink.state c.settle-stopped.new.out) (g.T.Sink.state c.send_all-back.new.trace)
-    c.take_apart.new.workers.items c.as_slice.result.now c.as_slice.ensures.value c.settle-stopped.ensures.run
+    (keeping c.send_all-back.new.run) (keeping c.run_end-stopped.new.run) (g.K.Sink.state c.send_all-back.new.out) (g.K.Sink.state c.run_end-stopped.new.out) (g.T.Sink.state c.send_all-back.new.trace)
+    c.take_apart.new.workers.items c.as_slice.result.now c.as_slice.ensures.value c.run_end-stopped.ensures.ends
     (has_joined (keeping c.args.run.now) (g.I.SourceIntake.id c.args.room.intake) c.args.workers.items (map g.P.IntakeSeat.shows c.args.room.seats.items) c.requires.ready c.requires.seats c.seat_all.new.waiting.items c.send_all-back.result.0.items
     c.take_apart.new.workers.items (map g.P.IntakeSeat.shows c.take_apart.new.seats.items) c.seat_all.ensures.seated c.send_all-back.ensures.back c.take_apart.ensures.seated (c.take_apart.ensures.many.0, length-map c.take_apart.new.seats.items g.P.IntakeSeat.shows ∙ c.take_apart.ensures.many.1)
     c.args.room.taker c.requires.taker c.send_all-back.new.taker.seat c.send_all-back.ensures.seat c.end.new.left c.end.ensures
@@ -92,10 +93,10 @@ returns-clause-run g c =
 
 pub returns-clause-behind : goal.returns-clause-behind
 returns-clause-behind g c =
-    ends_with c.send_all-back.result.1 (λ first last. (before : List Entry) → IsBehind before before first.kept → EndsBehind false before c.settle-stopped.result first last)
+    ends_with c.send_all-back.result.1 (λ first last. (before : List Entry) → IsBehind before before first.kept → EndsBehind false before c.run_end-stopped.result first last)
     (world (keeping c.args.run.now) (map supply_of c.args.workers.items) (g.K.Sink.state c.args.out.now) (g.T.Sink.state c.args.trace.now))
-    (keeping c.send_all-back.new.run) (keeping c.settle-stopped.new.run) (g.K.Sink.state c.send_all-back.new.out) (g.K.Sink.state c.settle-stopped.new.out) (g.T.Sink.state c.send_all-back.new.trace)
-    c.take_apart.new.workers.items c.as_slice.result.now c.as_slice.ensures.value c.settle-stopped.ensures.behind
+    (keeping c.send_all-back.new.run) (keeping c.run_end-stopped.new.run) (g.K.Sink.state c.send_all-back.new.out) (g.K.Sink.state c.run_end-stopped.new.out) (g.T.Sink.state c.send_all-back.new.trace)
+    c.take_apart.new.workers.items c.as_slice.result.now c.as_slice.ensures.value c.run_end-stopped.ensures.behind
     (has_joined (keeping c.args.run.now) (g.I.SourceIntake.id c.args.room.intake) c.args.workers.items (map g.P.IntakeSeat.shows c.args.room.seats.items) c.requires.ready c.requires.seats c.seat_all.new.waiting.items c.send_all-back.result.0.items
     c.take_apart.new.workers.items (map g.P.IntakeSeat.shows c.take_apart.new.seats.items) c.seat_all.ensures.seated c.send_all-back.ensures.back c.take_apart.ensures.seated (c.take_apart.ensures.many.0, length-map c.take_apart.new.seats.items g.P.IntakeSeat.shows ∙ c.take_apart.ensures.many.1)
     c.args.room.taker c.requires.taker c.send_all-back.new.taker.seat c.send_all-back.ensures.seat c.end.new.left c.end.ensures

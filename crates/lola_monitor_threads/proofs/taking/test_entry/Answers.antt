@@ -15,15 +15,15 @@ pub returns-in-Ok-clause-halts : goal.returns-in-Ok-clause-halts
 returns-in-Ok-clause-halts g c = λ first journal run sources.
     one_run c.args.inputs.now.count first journal c.args.entry.now (place (keeping c.enter.new.self) (g.K.Sink.state c.enter.new.out) (g.T.Sink.state c.enter.new.trace))
     sources (c.fit.ensures.0 c.if-not-fit.false).source (ran_entered first journal (keeping c.args.run.now) (keeping c.enter.new.self) (g.K.Sink.state c.args.out.now) (g.K.Sink.state c.enter.new.out) (g.T.Sink.state c.args.trace.now) (g.T.Sink.state c.enter.new.trace)
-    run c.args.entry.now (Ok tt) c.in-Ok.ensures.enters c.in-Ok.ensures.from c.in-Ok.ensures.taken)
+    run c.args.entry.now (Ok tt) c.in-Ok.ensures.enters c.in-Ok.ensures.writes c.in-Ok.ensures.taken c.enter.ensures.setting)
 
 pub returns-in-Ok-clause-goes : goal.returns-in-Ok-clause-goes
 returns-in-Ok-clause-goes g c = λ first journal run.
     ran_entered first journal (keeping c.args.run.now) (keeping c.enter.new.self) (g.K.Sink.state c.args.out.now) (g.K.Sink.state c.enter.new.out) (g.T.Sink.state c.args.trace.now) (g.T.Sink.state c.enter.new.trace)
-    run c.args.entry.now (Ok tt) c.in-Ok.ensures.enters c.in-Ok.ensures.from c.in-Ok.ensures.taken
+    run c.args.entry.now (Ok tt) c.in-Ok.ensures.enters c.in-Ok.ensures.writes c.in-Ok.ensures.taken c.enter.ensures.setting
 
 pub returns-in-Err-clause-halts : goal.returns-in-Err-clause-halts
 returns-in-Err-clause-halts g c = λ first journal run sources.
     one_stopped c.in-Err.stop c.args.inputs.now.count first journal c.args.entry.now (place (keeping c.enter.new.self) (g.K.Sink.state c.enter.new.out) (g.T.Sink.state c.enter.new.trace))
     sources (c.fit.ensures.0 c.if-not-fit.false).source (ran_entered first journal (keeping c.args.run.now) (keeping c.enter.new.self) (g.K.Sink.state c.args.out.now) (g.K.Sink.state c.enter.new.out) (g.T.Sink.state c.args.trace.now) (g.T.Sink.state c.enter.new.trace)
-    run c.args.entry.now (Err c.in-Err.stop) c.in-Err.ensures.enters c.in-Err.ensures.from tt)
+    run c.args.entry.now (Err c.in-Err.stop) c.in-Err.ensures.enters c.in-Err.ensures.writes tt c.enter.ensures.setting)

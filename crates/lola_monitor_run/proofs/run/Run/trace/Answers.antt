@@ -1,5 +1,5 @@
 use Rattle.lola_monitor_run.specs.Running.{keeping}
-use Rattle.lola_monitor_run.proofs.Entries.{taken_is_told}
+use Rattle.lola_monitor_run.proofs.EntriesTold.{taken_is_told}
 use Rattle.lola_monitor_run.proofs.run.Run.trace.Goals as goal
 
 pub returns-clause-told : goal.returns-clause-told
