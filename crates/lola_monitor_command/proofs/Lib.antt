@@ -4,3 +4,4 @@ pub mod InOrder
 mod ReplayInOrder
 mod SnapshotInOrder
 mod Borders
+mod Bounds

@@ -1,3 +1,4 @@
 pub mod Said
 pub mod Command
 pub mod Order
+pub mod Bounds

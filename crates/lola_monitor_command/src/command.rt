@@ -1,8 +1,9 @@
 //! Commands.
 
-ghost use Rattle.std.specs.Prelude.{◌≡◌, ◌≤◌, ◌++◌, true, false, if◌then◌else◌, IfOk, OnOk, drop, length, map, string_bytes};
+ghost use Rattle.std.specs.Prelude.{◌≡◌, ◌≤◌, ◌++◌, true, false, if◌then◌else◌, IfOk, IfSome, OnOk, drop, length, map, string_bytes};
 ghost use Rattle.std.specs.List.{list_all};
 ghost use Rattle.lola_value.specs.Times.{is_digit, number_of};
+ghost use Rattle.lola_monitor_command.specs.Bounds.{IsInBounds};
 ghost use Rattle.lola_monitor_command.specs.Said.{said_from};
 ghost use Rattle.lola_monitor_command.specs.Command.{front_names, behind_names, are_sources, run_over, run_of, analyse_of, is_number, drill_with, drill_of, replay_by, replay_of, replay_with, snapshot_over, snapshot_of, of_said, command_of};
 
@@ -370,8 +371,12 @@ fn read_snapshot(alloc: Global, words: &[String]) -> Result<Option<Command>, Mem
 /// `--name=value`. A value in a word of its own does not begin with a minus. With `--start` there is no `--resume`; a snapshot has
 /// these two options alone, a replay neither `--resume` nor what says how rows come in. A word `--` makes all words behind it
 /// names. A drill has no option and three numbers, each of digits alone.
+///
+/// There are from 1 to 64 workers and from 1 to 64 sources, a start is at most the latest time that a row can have, and the numbers of a
+/// drill are those that `DrillCommand` tells.
 pub fn read_command(alloc: Global, words: &[String]) -> Result<Option<Command>, Memory>
-    ensures { IfOk result (λ command. command ≡ command_of (map string_bytes words.now)) }
+    ensures command { IfOk result (λ command. command ≡ command_of (map string_bytes words.now)) }
+    ensures bounds { IfOk result (λ command. IfSome command IsInBounds) }
 {
     if words.len() < 2 {
         return Ok(None);

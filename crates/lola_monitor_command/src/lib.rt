@@ -1,7 +1,7 @@
 //! The words of a command line: which command they are, and what it is told.
 //!
-//! Promised: the command is the one that the definition gives of the words, or there is none; and the name of a saved state is
-//! what stands at the place that the command tells.
+//! Promised: the command is the one that the definition gives of the words, or there is none; what it is told is in its bounds; and the
+//! name of a saved state is what stands at the place that the command tells.
 #![tactic(auto)]
 
 pub mod command;
