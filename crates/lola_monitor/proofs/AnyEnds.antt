@@ -11,8 +11,8 @@ use Rattle.lola_monitor.specs.Monitor.{Call, Outside, call}
 use Rattle.lola_monitor.specs.Resumed.{DecidedResumed, EndedResumed}
 use Rattle.lola_monitor.specs.Snapshots.{DecidedSnapshot, EndedSnapshot}
 use Rattle.lola_monitor.specs.Statuses.{Decided, Ended}
-use Rattle.lola_monitor.specs.declared.outcome.CallEnd.{CallEnd}
-use Rattle.lola_monitor.specs.declared.outcome.CallEnd.TheVariants.{Memory}
+use Rattle.lola_monitor.specs.declared.call_end.CallEnd.{CallEnd}
+use Rattle.lola_monitor.specs.declared.call_end.CallEnd.TheVariants.{Memory}
 use Rattle.lola_monitor.proofs.Ends.{means_of}
 use Rattle.lola_monitor.proofs.Laws.{OneFinding, PutsAddUp}
 use Rattle.lola_monitor.proofs.Means.{ended}
@@ -28,8 +28,8 @@ no_memory words here = go (resumption_of words) (snapshot_of words) refl refl
   where
     go : (a : Option Resumption) (b : Option SnapshotNames) → resumption_of words ≡ a → snapshot_of words ≡ b → WorksAny Memory words here here
     go None None none still = inl (record { no_resumption = none; no_snapshot = still }, inl (record { trace = refl; out = refl }))
-    go (Some names) b is other = inr (inl (record { names = names; is_command = is; works = inl (record { trace = refl; out = refl }) }))
-    go None (Some names) none is = inr (inr (record { names = names; is_command = is; works = record { trace = refl; out = refl } }))
+    go (Some names) b is other = inr (inl (record { names = names; is_command = is; works = inl (record { trace = refl; out = refl }); cause = tt }))
+    go None (Some names) none is = inr (inr (record { names = names; is_command = is; works = record { trace = refl; out = refl }; cause = tt }))
 
 -- no command is both
 not_both : (words : List (List ℕ)) (c : Option Command) (a : Resumption) (b : SnapshotNames) → resumption_by words c ≡ Some a → snapshot_by words c ≡ Some b → ⊥
@@ -63,7 +63,7 @@ module _ (words : List (List ℕ)) (before after : Outside) (last : SinkState) (
   pub any_resumed : WorksAny outcome words before after → (names : Resumption) → resumption_of words ≡ Some names → EndedResumed status names here
   any_resumed (inl w) names is = let none = w.0.no_resumption in absurd (cc)
   any_resumed (inr (inl r)) names is =
-      subst (λ (n : Resumption). EndedResumed status n here) (same_resumption words r.names names r.is_command is) (ended_resumed parts r.names words before after last status outcome r.works e)
+      subst (λ (n : Resumption). EndedResumed status n here) (same_resumption words r.names names r.is_command is) (ended_resumed parts r.names words before after last status outcome r.works r.cause e)
   any_resumed (inr (inr s)) names is = absurd (not_both words (command_of words) names s.names is s.is_command)
 
   pub any_decided_resumed : WorksAny outcome words before after → (names : Resumption) → resumption_of words ≡ Some names → DecidedResumed status names here
@@ -76,7 +76,7 @@ module _ (words : List (List ℕ)) (before after : Outside) (last : SinkState) (
   any_snapshot (inl w) names is = let none = w.0.no_snapshot in absurd (cc)
   any_snapshot (inr (inl r)) names is = absurd (not_both words (command_of words) r.names names r.is_command is)
   any_snapshot (inr (inr s)) names is =
-      subst (λ (n : SnapshotNames). EndedSnapshot status n here) (same_snapshot words s.names names s.is_command is) (ended_snapshot words s.names before after last status outcome s.works e)
+      subst (λ (n : SnapshotNames). EndedSnapshot status n here) (same_snapshot words s.names names s.is_command is) (ended_snapshot words s.names before after last parts status outcome s.works s.cause e)
 
   pub any_decided_snapshot : WorksAny outcome words before after → (names : SnapshotNames) → snapshot_of words ≡ Some names → DecidedSnapshot status names here
   any_decided_snapshot (inl w) names is = let none = w.0.no_snapshot in absurd (cc)

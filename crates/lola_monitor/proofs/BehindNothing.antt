@@ -2,11 +2,12 @@
 use Rattle.std.proofs.Common.{◌≡◌, ℕ, ◌-◌, List, [], ◌++◌, length, refl, sym, ap, ◌∙◌, subst, arith}
 use Rattle.lola_port.specs.States.{PutBroke, SinkState, grown}
 use Rattle.lola_model.specs.Faults.{RunFault}
-use Rattle.lola_model.specs.Journal.{accepted}
+use Rattle.lola_model.specs.Journal.{accepted, opening_time}
 use Rattle.lola_model.specs.Runs.{final_lines, settled_lines, settled_model, whole_model}
 use Rattle.lola_model.specs.declared.journal.Entry.{Entry}
-use Rattle.lola_report_lines.specs.declared.end.EndLine.TheVariants.{Done}
-use Rattle.lola_monitor_run.specs.Behind.{HasFrontBehind, IsCutAtDeadlineBehind, IsCutAtRowBehind, IsRowFaultBehind}
+use Rattle.lola_report.specs.declared.end.EndLine.TheVariants.{Done}
+use Rattle.lola_monitor_run.specs.Behind.{HasFrontBehind, IsBehind, IsCutAtDeadlineBehind, IsCutAtRowBehind, IsRowFaultBehind}
+use Rattle.lola_monitor_run.specs.Running.{Keeping, setting_in}
 use Rattle.lola_monitor_run.specs.Verdicts.{HasFront, IsCutAtDeadline, IsCutAtRow, IsRowFault, Setting, late_count}
 use Rattle.lola_monitor_run.proofs.Fronts.{no_lines}
 use Rattle.lola_monitor_run.proofs.TextsBehind.{settled_first, verdicts_first}
@@ -19,6 +20,10 @@ no_steps s = refl
 
 all_left : (n : ℕ) → n - 0 ≡ n
 all_left n = omega arith
+
+-- a run that begins anew has come to where its time begins
+pub begins_anew : (kept : Keeping) (s : Setting) → IsBehind [] [] kept → setting_in kept ≡ s → opening_time s.start ≡ kept.state.merged
+begins_anew kept s stands set = ap (λ (t : Setting). opening_time t.start) (sym set) ∙ sym stands.engine.merged
 
 module _ (s : Setting) (journal : List Entry) where
   pub row_fault_first : (fault : RunFault) → IsRowFaultBehind s [] journal fault → IsRowFault s journal fault

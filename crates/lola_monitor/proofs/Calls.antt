@@ -11,10 +11,10 @@ use Rattle.lola_monitor.specs.Command.{ReplayNames, names_asked}
 use Rattle.lola_monitor.specs.Monitor.{Asked, asks_between}
 use Rattle.lola_monitor.specs.Outcomes.{Grew, Marred, PlansName, Stopped, noted}
 use Rattle.lola_monitor.specs.ReplayOutcomes.{ReplaysTexts}
-use Rattle.lola_monitor.specs.declared.outcome.CallEnd.{CallEnd}
-use Rattle.lola_monitor.specs.declared.outcome.CallEnd.TheVariants.{Line, Drilled, Report, Replayed, Stated, CutFault, Put, Memory}
-use Rattle.lola_monitor.specs.declared.outcome.Unplanned.{Unplanned}
-use Rattle.lola_monitor.specs.declared.outcome.Unplanned.TheVariants as unplanned
+use Rattle.lola_monitor.specs.declared.call_end.CallEnd.{CallEnd}
+use Rattle.lola_monitor.specs.declared.call_end.CallEnd.TheVariants.{Line, Drilled, Report, Replayed, Stated, CutFault, Put, Memory}
+use Rattle.lola_monitor.specs.declared.call_end.Unplanned.{Unplanned}
+use Rattle.lola_monitor.specs.declared.call_end.Unplanned.TheVariants as unplanned
 
 pub between : (before after : ShelfState) (asks : List Ask) → after.asks ≡ before.asks ++ asks → asks_between before after ≡ asks
 between before after asks is = ap (drop (length before.asks)) is ∙ drop-append_seam before.asks asks
@@ -61,6 +61,11 @@ grew_twice name names before mid after is grew = record {
   front = (grew.front.0, ap (λ (l : List (List ℕ)). name ∷ l) grew.front.1);
   home = grew.home ∙ ap (λ s. s.out) is;
 }
+
+-- two texts, one asked for behind the other
+pub asked_both : (one two : List ℕ) (before mid after : ShelfState) → mid ≡ noted before one → after ≡ noted mid two → after.asks ≡ before.asks ++ given_ask one ∷ given_ask two ∷ []
+asked_both one two before mid after read later =
+    ap (λ (s : ShelfState). s.asks) later ∙ (ap (λ (s : ShelfState). s.asks ++ given_ask two ∷ []) read ∙ append_assoc before.asks (given_ask one ∷ []) (given_ask two ∷ []))
 
 -- a trace and verdicts
 pub grew_texts : (outcome : CallEnd) (plan : Plan) (names : ReplayNames) (before after : ShelfState) → ReplaysTexts outcome plan names before after → Grew (names.trace ∷ names.verdicts ∷ []) before after

@@ -1,14 +1,14 @@
 -- The last line of a drill, and its status.
 use Rattle.std.proofs.Common.{◌≡◌, ◌⊎◌, ℕ, List, inl, inr, ap, ◌∙◌, subst}
 use Rattle.lola_port.specs.States.{PutBroke, SinkState, grown}
-use Rattle.lola_report_lines.specs.Ends.{end_text}
-use Rattle.lola_report_lines.specs.declared.end.EndLine.{EndLine}
-use Rattle.lola_report_lines.specs.declared.end.EndLine.TheVariants.{Done, Usage, Refused, Malformed, Fault, UnreadableSpecification, UnreadableSource, Analysed}
+use Rattle.lola_report.specs.Ends.{end_text}
+use Rattle.lola_report.specs.declared.end.EndLine.{EndLine}
+use Rattle.lola_report.specs.declared.end.EndLine.TheVariants.{Done, Usage, Refused, Malformed, Fault, UnreadableSpecification, UnreadableSource, Analysed}
 use Rattle.lola_monitor.specs.Drilling.{IsCutDrill, IsDrillDone, IsDrillMalformed}
 use Rattle.lola_monitor.specs.Monitor.{Call, IsEarly, Outside, Wrote, call}
 use Rattle.lola_monitor.specs.Conclusions.{Concluded}
 use Rattle.lola_monitor.specs.Outcomes.{StoodDrilled}
-use Rattle.lola_monitor.specs.declared.outcome.CallEnd.TheVariants.{Drilled}
+use Rattle.lola_monitor.specs.declared.call_end.CallEnd.TheVariants.{Drilled}
 use Rattle.lola_monitor.proofs.Means.{Means, means_at}
 
 module _ (words : List (List ℕ)) (before after : Outside) (last : SinkState) where

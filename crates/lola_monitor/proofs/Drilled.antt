@@ -5,7 +5,6 @@ use Rattle.std.proofs.lemmas.List.Elements.{All-head, All-tail}
 use Rattle.lola_port.specs.States.{Rose, SinkState}
 use Rattle.lola_model.specs.Acceptance.{IsAccepted}
 use Rattle.lola_model.specs.Faults.{RunFault}
-use Rattle.lola_model.specs.Runs.{whole_model}
 use Rattle.lola_model.specs.Journal.{IsLegal, accepted, rows_of}
 use Rattle.lola_model.specs.declared.plan.Plan.{Plan}
 use Rattle.lola_model.specs.declared.journal.Entry.{Entry}
@@ -17,21 +16,25 @@ use Rattle.lola_rows.specs.Rows.{SourceEnd, SourceRows, Whole, rows_of_source}
 use Rattle.lola_feed.specs.Feeding.{Working, beginning, to_come}
 use Rattle.lola_feed.specs.declared.worker.SourceEnd as worker
 use Rattle.lola_feed.specs.declared.worker.SourceEnd.TheVariants as finish
-use Rattle.lola_report_lines.specs.declared.end.EndLine.{EndLine}
-use Rattle.lola_report_lines.specs.declared.end.EndLine.TheVariants.{Done}
+use Rattle.lola_report.specs.declared.end.EndLine.{EndLine}
+use Rattle.lola_report.specs.declared.end.EndLine.TheVariants.{Done}
 use Rattle.lola_feed.specs.Drills.{drill_text}
-use Rattle.lola_monitor_run.specs.Verdicts.{IsRowFault, Setting, fault_in, late_count, most_rows, settled_fault_in}
+use Rattle.lola_monitor_run.specs.Verdicts.{IsRowFault, Setting, fault_in, most_rows, settled_fault_in}
 use Rattle.lola_monitor_run.specs.Running.{Keeping, setting_in}
 use Rattle.lola_monitor_run.specs.declared.stop.Stop.{Stop}
 use Rattle.lola_monitor_run.specs.declared.stop.Stop.TheVariants as stop
 use Rattle.lola_monitor_run.specs.Rounds.{AreFirst}
-use Rattle.lola_monitor_run.specs.Feeds as feeds
-use Rattle.lola_monitor_run.specs.Feeds.{AreFed, AreInPlace, AreReady, CameTo, EndedByFault, EndedWith, EndsRun, GoInRounds, HasEnded, HaveEnded, IsListOf, Supply, ThroughWell, World, supply_of, world}
+use Rattle.lola_monitor_run.specs.Behind as behind
+use Rattle.lola_monitor_run.specs.Behind.{CameBehind, EndedByFaultBehind, EndsBehind, IsRowFaultBehind, ThroughWellBehind}
+use Rattle.lola_monitor_run.specs.Feeds.{AreFed, AreInPlace, AreReady, EndedWith, GoInRounds, HasEnded, HaveEnded, IsListOf, Supply, World, supply_of, world}
 use Rattle.lola_monitor.specs.Drilling.{AreDrillWorkers, DrillRun, DrillsTo, IsAtDrillDeadline, IsDrillFault, IsDrillWorker, drill_rows, drill_setting}
 use Rattle.lola_monitor.specs.Monitor.{HasItsModels, MalformedSource, done_line, fault_line, first_malformed}
 use Rattle.lola_monitor.specs.Outcomes.{OutcomeAfter, end_by, end_of, ends_of, first_failed, is_failed_read, line_of, malformed_by, source_end}
+use Rattle.lola_monitor.specs.SnapshotOutcomes.{nowhere}
 use Rattle.lola_monitor.specs.declared.ending.SourcesEnd.{SourcesEnd}
-use Rattle.lola_monitor.specs.declared.outcome.CallEnd.TheVariants.{Line}
+use Rattle.lola_monitor.specs.declared.call_end.CallEnd.TheVariants.{Line}
+use Rattle.lola_monitor.proofs.BehindNothing.{done_first, row_fault_first}
+use Rattle.lola_monitor.proofs.DoneLines.{done_counts}
 use Rattle.lola_monitor.proofs.FailedAsks.{none_malformed}
 
 -- ---- a source whose reads do not fail
@@ -144,7 +147,7 @@ module _ (d : DrillCommand) (plan : Plan) (kept0 kept1 : Keeping) (w0 w1 v0 v1 :
         (λ bad. not_risen w1.reader.source.count v1.reader.source.count none1 still1 (rounds.failed 1 (supply_of w1) (supply_of v1) refl refl bad))) in
         subst (λ (lists : List (List Row)). AreFirst lists journal) same rounds.first
 
-    abbrev run_of : CameTo true first final → DrillRun d
+    abbrev run_of : CameBehind true [] first final → DrillRun d
     run_of came = record {
       plan = plan;
       is_plan = is_plan;
@@ -191,15 +194,10 @@ module _ (d : DrillCommand) (plan : Plan) (kept0 kept1 : Keeping) (w0 w1 v0 v1 :
               led rows end = record { rows = rows; end = end }
 
     -- the counts of the last line
-    done_is : (w : ThroughWell true first final) → Done kept1.accepted kept1.late kept1.state.steps kept1.state.lines ≡ done_line (setting_in kept0) w.through.came.journal
-    done_is w =
-        let journal = w.through.came.journal in let s = setting_in kept0 in
-        ap (λ a. Done a kept1.late kept1.state.steps kept1.state.lines) w.accepted
-        ∙ (ap (λ l. Done (length (accepted journal)) l kept1.state.steps kept1.state.lines) w.late
-        ∙ (ap (λ n. Done (length (accepted journal)) (late_count journal) n kept1.state.lines) w.steps
-        ∙ ap (λ v. Done (length (accepted journal)) (late_count journal) (length (whole_model s.plan s.start journal)) v) w.lines))
+    done_is : (w : ThroughWellBehind true [] first final) → Done kept1.accepted kept1.late kept1.state.steps kept1.state.lines ≡ done_line (setting_in kept0) w.through.came.journal
+    done_is w = done_counts (setting_in kept0) [] w.through.came.journal kept1 w.accepted w.late w.steps w.lines ∙ done_first (setting_in kept0) w.through.came.journal
 
-    by_ends : (m : Option MalformedSource) → first_malformed (map source_end ends) ≡ m → ThroughWell true first final → DrillsTo (line_of (malformed_by m) kept1) d
+    by_ends : (m : Option MalformedSource) → first_malformed (map source_end ends) ≡ m → ThroughWellBehind true [] first final → DrillsTo (line_of (malformed_by m) kept1) d
     by_ends None well w = record {
       run = run_of w.through.came;
       rows = all_whole w.through.came.journal w.fed w.ended well;
@@ -216,12 +214,12 @@ module _ (d : DrillCommand) (plan : Plan) (kept0 kept1 : Keeping) (w0 w1 v0 v1 :
     }
 
     -- where a fault stands
-    placed : (fault : RunFault) (came : CameTo true first final) → IsRowFault (setting_in kept0) came.journal fault ⊎ feeds.IsAtDeadline came.journal first final
+    placed : (fault : RunFault) (came : CameBehind true [] first final) → IsRowFaultBehind (setting_in kept0) [] came.journal fault ⊎ behind.IsAtDeadlineBehind [] came.journal first final
         → IsRowFault (drill_setting plan) came.journal fault ⊎ IsAtDrillDeadline d (run_of came)
-    placed fault came (inl at) = inl (subst (λ (s : Setting). IsRowFault s came.journal fault) setting at)
+    placed fault came (inl at) = inl (subst (λ (s : Setting). IsRowFault s came.journal fault) setting (row_fault_first (setting_in kept0) came.journal fault at))
     placed fault came (inr at) = inr (record { settled = subst (λ (s : Setting). settled_fault_in s came.journal ≡ None) setting at.settled; rows = all_rows came.journal at.fed at.ended })
 
-    abbrev faulty : (fault : RunFault) → EndedByFault true fault first final → IsDrillFault d (fault_line plan fault)
+    abbrev faulty : (fault : RunFault) → EndedByFaultBehind true [] fault first final → IsDrillFault d (fault_line plan fault)
     faulty fault e = record {
       run = run_of e.through.came;
       fault = fault;
@@ -233,7 +231,7 @@ module _ (d : DrillCommand) (plan : Plan) (kept0 kept1 : Keeping) (w0 w1 v0 v1 :
     line_same : (a b : EndLine) → Line a ≡ Line b → a ≡ b
     line_same a b e = cc
 
-    ends_with : (how : Result (Unit {0}) Stop) (line : EndLine) → OutcomeAfter how (end_of ends) plan kept1 (Line line) → EndsRun true how first final → DrillsTo line d
+    ends_with : (how : Result (Unit {0}) Stop) (line : EndLine) → OutcomeAfter how (end_of ends) plan kept1 (Line line) → EndsBehind true [] how first final → DrillsTo line d
     ends_with (Ok done) line is ran =
         let whole : end_of ends ≡ malformed_by (first_malformed (map source_end ends)) = ap (λ f. end_by f (first_malformed (map source_end ends))) (none_failed ran.through.came.journal ran.fed) in
         subst (λ l. DrillsTo l d) (sym (line_same line (line_of (malformed_by (first_malformed (map source_end ends))) kept1) (is ∙ ap (λ e. Line (line_of e kept1)) whole)))
@@ -251,7 +249,7 @@ pub drills_to : (d : DrillCommand) (plan : Plan) (kept0 kept1 : Keeping) (lent l
     → IsPlanOf drill_text plan → IsAccepted plan → HasItsModels plan → setting_in kept0 ≡ drill_setting plan → AreDrillWorkers plan d lent → length last ≡ length lent
     → All (λ (w : Working). w.reader.source.count ≡ 0) last
     → OutcomeAfter how (end_of (ends_of last)) plan kept1 (Line line)
-    → EndsRun true how (world kept0 (map supply_of lent) out0 trace0) (world kept1 (map supply_of last) out1 trace1) → DrillsTo line d
+    → EndsBehind true [] how (world kept0 (map supply_of lent) out0 trace0) (world kept1 (map supply_of last) out1 trace1) → DrillsTo line d
 drills_to d plan kept0 kept1 [] last out0 trace0 out1 trace1 how line is_plan accepted_plan one_model setting are many still is ran = absurd (omega (arith, are.many))
 drills_to d plan kept0 kept1 (w0 ∷ []) last out0 trace0 out1 trace1 how line is_plan accepted_plan one_model setting are many still is ran = absurd (omega (arith, are.many))
 drills_to d plan kept0 kept1 (w0 ∷ w1 ∷ w2 ∷ lent) last out0 trace0 out1 trace1 how line is_plan accepted_plan one_model setting are many still is ran = absurd (omega (arith, are.many))
@@ -262,10 +260,6 @@ drills_to d plan kept0 kept1 (w0 ∷ w1 ∷ []) (v0 ∷ v1 ∷ []) out0 trace0 o
     let P : Working → Type 0 = λ w. w.reader.source.count ≡ 0 in
     ends_with d plan kept0 kept1 w0 w1 v0 v1 out0 trace0 out1 trace1 is_plan accepted_plan one_model setting (are.each 0 w0 refl) (are.each 1 w1 refl)
     (All-head P v0 (v1 ∷ []) still) (All-head P v1 [] (All-tail P v0 (v1 ∷ []) still)) how line is ran
-
--- a sink that tells nothing, no put to which fails
-abbrev pub nowhere : SinkState
-nowhere = record { written = None; count = 0 }
 
 as_many : (lent last : List Working) → AreInPlace lent last → length last ≡ length lent
 as_many lent last places = sym (length-map last (λ (w : Working). w.reader.source.place)) ∙ ap length places ∙ length-map lent (λ (w : Working). w.reader.source.place)
@@ -278,7 +272,7 @@ pub drilled : (d : DrillCommand) (plan : Plan) (kept0 kept1 : Keeping) (lent las
     → IsPlanOf drill_text plan → IsAccepted plan → HasItsModels plan → setting_in kept0 ≡ drill_setting plan → AreDrillWorkers plan d lent → AreInPlace lent last
     → All (λ (w : Working). w.reader.source.count ≡ 0) last → shown ≡ last → end ≡ end_of (ends_of shown) → kept1.state.plan ≡ kept0.state.plan
     → OutcomeAfter how end kept1.state.plan kept1 (Line line)
-    → EndsRun true how (world kept0 (map supply_of lent) nowhere nowhere) (world kept1 (map supply_of last) nowhere nowhere) → DrillsTo line d
+    → EndsBehind true [] how (world kept0 (map supply_of lent) nowhere nowhere) (world kept1 (map supply_of last) nowhere nowhere) → DrillsTo line d
 drilled d plan kept0 kept1 lent last shown how end line is_plan accepted_plan one_model setting are places still same ends plans is ran =
     let ends_are : end ≡ end_of (ends_of last) = ends ∙ ap (λ (ws : List Working). end_of (ends_of ws)) same in
     let plan_is : kept1.state.plan ≡ plan = plans ∙ ap (λ (s : Setting). s.plan) setting in

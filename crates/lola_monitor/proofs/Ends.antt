@@ -3,14 +3,14 @@ use Rattle.std.proofs.Common.{◌≡◌, ℕ, ◌≤◌, List, ◌++◌, inl, in
 use Rattle.std.specs.Io.KnownBytes.{append_known}
 use Rattle.lola_port.specs.States.{PutBroke, Rose, SinkState, grown}
 use Rattle.lola_value.specs.declared.front.Refusal.{Refusal}
-use Rattle.lola_report_lines.specs.Ends.{end_text}
-use Rattle.lola_report_lines.specs.declared.end.EndLine.{EndLine}
-use Rattle.lola_report_lines.specs.declared.end.EndLine.TheVariants.{Done, Usage, Refused, Malformed, Fault, UnreadableSpecification, UnreadableSource, Analysed}
+use Rattle.lola_report.specs.Ends.{end_text}
+use Rattle.lola_report.specs.declared.end.EndLine.{EndLine}
+use Rattle.lola_report.specs.declared.end.EndLine.TheVariants.{Done, Usage, Refused, Malformed, Fault, UnreadableSpecification, UnreadableSource, Analysed}
 use Rattle.lola_monitor.specs.Monitor.{Call, IsAnalysed, IsCutAnalysis, IsCutDone, IsCutMalformed, IsCutOff, IsCutShort, IsDone, IsEarly, IsFault, IsMalformed, IsRefused, IsUnread, IsUsage, Outside, Wrote, call}
 use Rattle.lola_monitor.specs.Conclusions.{Concluded}
 use Rattle.lola_monitor.specs.Outcomes.{AreUntouched, NoCommand, NoPlan, NotRead, StoodAnalysed, StoodCut, StoodDone, StoodFault, StoodMalformed, Works}
-use Rattle.lola_monitor.specs.declared.outcome.CallEnd.{CallEnd}
-use Rattle.lola_monitor.specs.declared.outcome.CallEnd.TheVariants.{Line, Drilled, Report, Replayed, Stated, CutFault, Put, Memory}
+use Rattle.lola_monitor.specs.declared.call_end.CallEnd.{CallEnd}
+use Rattle.lola_monitor.specs.declared.call_end.CallEnd.TheVariants.{Line, Drilled, Report, Replayed, Stated, CutFault, Put, Memory}
 use Rattle.lola_replay.specs.declared.end.ReplayEnd.TheVariants.{Found, UnreadableTrace, UnreadableVerdicts}
 use Rattle.lola_monitor.proofs.DrillEnds.{drill_means}
 use Rattle.lola_monitor.proofs.ReplayMeans.{found_means, unread_means}

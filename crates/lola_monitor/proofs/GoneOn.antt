@@ -1,9 +1,7 @@
 -- A run that goes on, after its specification and its state were read.
-use Rattle.std.proofs.Common.{◌≡◌, ◌⊎◌, ℕ, List, [], ◌∷◌, ◌++◌, Option, None, Some, Err, Bool, map, inl, inr, refl, sym, ap, if◌then◌else◌, ◌∙◌, subst, append_assoc}
-use Rattle.std.specs.Prelude.{◌+◌}
-use Rattle.std.specs.Option.{option_map}
+use Rattle.std.proofs.Common.{◌≡◌, ◌⊎◌, ℕ, List, [], ◌∷◌, ◌++◌, Option, Err, map, inl, inr, refl, sym, ap, ◌∙◌, subst}
 use Rattle.lola_port.specs.Asks.{given_ask}
-use Rattle.lola_port.specs.States.{Rose, ShelfState}
+use Rattle.lola_port.specs.States.{ShelfState}
 use Rattle.lola_port.specs.declared.traits.Ask.{Ask}
 use Rattle.lola_model.specs.Acceptance.{IsAccepted}
 use Rattle.lola_model.specs.Faults.{RunFault}
@@ -12,79 +10,44 @@ use Rattle.lola_model.specs.Journal as journals
 use Rattle.lola_model.specs.declared.journal.Entry.{Entry}
 use Rattle.lola_model.specs.declared.journal.Show.{Show}
 use Rattle.lola_model.specs.declared.plan.Plan.{Plan}
-use Rattle.lola_report_lines.specs.declared.end.EndLine.{EndLine}
-use Rattle.lola_report_lines.specs.declared.end.EndLine.TheVariants.{Done, Usage, Refused, Malformed, Fault, UnreadableSpecification, UnreadableSource, Analysed}
+use Rattle.lola_report.specs.declared.end.EndLine.{EndLine}
+use Rattle.lola_report.specs.declared.end.EndLine.TheVariants.{Done, Usage, Refused, Malformed, Fault, UnreadableSpecification, UnreadableSource, Analysed}
 use Rattle.lola_rows.specs.Rows.{Whole}
-use Rattle.lola_save.specs.StateEnds.{IsRefusedState}
-use Rattle.lola_save.specs.declared.end.StateEnd.{StateEnd}
 use Rattle.lola_save.specs.declared.end.StateEnd.TheVariants as state_end
-use Rattle.lola_save_law.specs.JournalStates.{state_of}
 use Rattle.lola_save_text.specs.Damage.{IsStateText}
-use Rattle.lola_save_text.specs.Lines.{state_text}
 use Rattle.lola_monitor_run.specs.Behind.{IsRowFaultBehind}
 use Rattle.lola_monitor_run.specs.Running.{Keeping, setting_in}
 use Rattle.lola_monitor_run.specs.Verdicts.{Setting}
+use Rattle.lola_monitor.specs.Causes.{AllHome}
 use Rattle.lola_monitor.specs.Command.{Resumption}
-use Rattle.lola_monitor.specs.Monitor.{AllRead, HasItsModels, Outside, Plans, WereGiven, asks_between, first_failed_ask}
-use Rattle.lola_monitor.specs.Outcomes.{AllHome, ArePutBehind, AreUntouched, BrokenRun, CameHome, CutFaultRun, CutRun, DoneRun, EndsSources, FaultRun, IsAtDeadlineBehind, MalformedRun, Marred, NotGivenRun, PlansName, RunsBehindAny, RunsSources, SourcesRun, TakesSources, UnfinishedRun, noted, without_plan}
+use Rattle.lola_monitor.specs.Monitor.{AllRead, HasItsModels, Outside, Plans, WereGiven}
+use Rattle.lola_monitor.specs.Outcomes.{ArePutBehind, AreUntouched, BrokenRun, CameHome, CutFaultRun, CutRun, DoneRun, EndsSources, FaultRun, IsAtDeadlineBehind, MalformedRun, NotGivenRun, PlansName, RunsBehindAny, RunsSources, SourcesRun, TakesSources, UnfinishedRun, noted, without_plan}
 use Rattle.lola_monitor.specs.Pasts.{AllGivenIn, IsFrontIn, IsSavedAs, RanBehind}
 use Rattle.lola_monitor.specs.Replaying.{IsText}
 use Rattle.lola_monitor.specs.Resumed.{CutsOffBehind, inputs_of, setting_of_resumed}
-use Rattle.lola_monitor.specs.ResumedOutcomes.{GoesOn, IsStateTold, RunRead, StoodCut, StoodCutFault, StoodCutOff, StoodDone, StoodFault, StoodMalformed, StoodStateRefused, StoodUnfinished, WorksResumed, without_engine}
-use Rattle.lola_monitor.specs.Stating.{NoEngine, StateRefused}
-use Rattle.lola_monitor.specs.declared.outcome.CallEnd.{CallEnd}
-use Rattle.lola_monitor.specs.declared.outcome.CallEnd.TheVariants.{Line, Drilled, Report, Replayed, Stated, CutFault, Put, Memory}
-use Rattle.lola_monitor.specs.declared.outcome.Unloaded.{Unloaded}
-use Rattle.lola_monitor.specs.declared.outcome.Unloaded.TheVariants as unloaded
-use Rattle.lola_monitor.specs.declared.outcome.Unplanned.{Unplanned}
-use Rattle.lola_monitor.specs.declared.outcome.Unplanned.TheVariants as unplanned
-use Rattle.lola_monitor.proofs.Calls.{between}
+use Rattle.lola_monitor.specs.ResumedOutcomes.{GoesOn, IsStateTold, RunRead, StoodCut, StoodCutFault, StoodCutOff, StoodDone, StoodFault, StoodMalformed, StoodUnfinished, WorksResumed, without_engine}
+use Rattle.lola_monitor.specs.Stating.{NoEngine}
+use Rattle.lola_monitor.specs.declared.call_end.CallEnd.{CallEnd}
+use Rattle.lola_monitor.specs.declared.call_end.CallEnd.TheVariants.{Line, Drilled, Report, Replayed, Stated, CutFault, Put, Memory}
+use Rattle.lola_monitor.specs.declared.call_end.Unloaded.{Unloaded}
+use Rattle.lola_monitor.specs.declared.call_end.Unloaded.TheVariants as unloaded
+use Rattle.lola_monitor.specs.declared.call_end.Unplanned.{Unplanned}
+use Rattle.lola_monitor.specs.declared.call_end.Unplanned.TheVariants as unplanned
+use Rattle.lola_monitor.proofs.Calls.{asked_both}
 use Rattle.lola_monitor.proofs.FailedAsks.{given_at}
 use Rattle.lola_monitor.proofs.TextsFirst as first
-use Rattle.lola_monitor.proofs.Working.{asks_noted, first_is_failed_ask}
-
--- the second ask is the first faulty one
-second_is_failed_ask : (one two : List ℕ) (before mid after : ShelfState) → mid ≡ noted before one → Marred two mid after → first_failed_ask (asks_between before after) ≡ Some 1
-second_is_failed_ask one two before mid after read m =
-    let asks : after.asks ≡ before.asks ++ given_ask one ∷ m.ask ∷ [] = m.asks ∙ (ap (λ (s : ShelfState). s.asks ++ m.ask ∷ []) read ∙ append_assoc before.asks (given_ask one ∷ []) (m.ask ∷ [])) in
-    ap first_failed_ask (between before after (given_ask one ∷ m.ask ∷ []) asks)
-    ∙ ap (λ (b : Bool). option_map (λ n. n + 1) (if b then Some 0 else option_map (λ n. n + 1) None)) m.has_failed
+use Rattle.lola_monitor.proofs.TextsRefused.{first_unread, front_saved, plan_refused, second_unread, state_refused, text_told}
 
 abbrev setting : Plan → Option ℕ → Show → Setting
 setting plan start show = record { plan = plan; start = start; show = show }
 
--- two texts, one asked for behind the other
-asked_both : (one two : List ℕ) (before mid after : ShelfState) → mid ≡ noted before one → after ≡ noted mid two → after.asks ≡ before.asks ++ given_ask one ∷ given_ask two ∷ []
-asked_both one two before mid after read later =
-    ap (λ (s : ShelfState). s.asks) later ∙ (ap (λ (s : ShelfState). s.asks ++ given_ask two ∷ []) read ∙ append_assoc before.asks (given_ask one ∷ []) (given_ask two ∷ []))
-
 module _ (names : Resumption) (plan : Plan) (text : List ℕ) (before : Outside) (one : ShelfState) (is_plan : Plans (before.shelf.told names.specification) plan)
     (is_text : IsText (before.shelf.told names.specification) text) (read_first : one ≡ noted before.shelf names.specification) where
-  -- a state that was read, as it is told
-  text_told : (state bytes all : List ℕ) → IsText (one.told state) bytes → before.shelf.told state ≡ Some all → bytes ≡ all
-  text_told state bytes all is told = is all (ap (λ (s : ShelfState). s.told state) read_first ∙ told)
-
-  refused : (end : StateEnd) (after : Outside) → AreUntouched before after → StateRefused end text plan names.state one after.shelf → StoodStateRefused end names before after
-  refused end after early r = record {
-    plan = plan;
-    is_plan = is_plan;
-    cause = λ all bytes is_all is_bytes.
-        subst (λ (t : List ℕ). IsRefusedState t plan bytes end) (is_text all is_all)
-        (subst (λ (b : List ℕ). IsRefusedState text plan b end) (text_told names.state r.bytes bytes r.is_text is_bytes) r.refused);
-    asks = between before.shelf after.shelf (given_ask names.specification ∷ given_ask names.state ∷ []) (asked_both names.specification names.state before.shelf one after.shelf read_first r.shelf);
-    count = ap (λ (s : ShelfState). s.count) r.shelf ∙ ap (λ (s : ShelfState). s.count) read_first;
-    early = early;
-  }
-
   -- the specification was read, and no engine made
   pub works_unloaded : (end : Unloaded) (after : Outside) → AreUntouched before after → NoEngine end text plan names.state one after.shelf → WorksResumed (without_engine end) names before after
-  works_unloaded (unloaded.Stated state_end.Unreadable) after early m = record {
-    has_failed = second_is_failed_ask names.specification names.state before.shelf one after.shelf read_first m;
-    rose = subst (λ n. Rose n after.shelf.count) (ap (λ (s : ShelfState). s.count) read_first) m.rose;
-    early = early;
-  }
-  works_unloaded (unloaded.Stated (state_end.Damaged line)) after early r = refused (state_end.Damaged line) after early r
-  works_unloaded (unloaded.Stated state_end.OtherSpecification) after early r = refused state_end.OtherSpecification after early r
+  works_unloaded (unloaded.Stated state_end.Unreadable) after early m = second_unread names.specification names.state before one after read_first early m
+  works_unloaded (unloaded.Stated (state_end.Damaged line)) after early r = state_refused names.specification names.state text plan before one is_plan is_text read_first (state_end.Damaged line) after early r
+  works_unloaded (unloaded.Stated state_end.OtherSpecification) after early r = state_refused names.specification names.state text plan before one is_plan is_text read_first state_end.OtherSpecification after early r
   works_unloaded (unloaded.Stated state_end.TooManySteps) after early r = absurd r
   works_unloaded unloaded.Memory after early r = inl early
 
@@ -103,7 +66,8 @@ module _ (names : Resumption) (plan : Plan) (text : List ℕ) (before : Outside)
 
     is_state : IsStateTold (before.shelf.told names.specification) plan (before.shelf.told names.state)
     is_state all bytes is_all is_bytes =
-        subst (λ (t : List ℕ). IsStateText t plan bytes) (is_text all is_all) (subst (IsStateText text plan) (text_told names.state read.bytes bytes read.is_text is_bytes) read.is_state)
+        subst (λ (t : List ℕ). IsStateText t plan bytes) (is_text all is_all)
+        (subst (IsStateText text plan) (text_told names.specification names.state text plan before.shelf one is_plan is_text read_first read.bytes bytes read.is_text is_bytes) read.is_state)
 
     module _ (after : Outside) (start : Option ℕ) (front : List Entry) (is_front : IsFrontIn before.shelf names.specification names.state start front) where
       abbrev s : Setting
@@ -112,16 +76,8 @@ module _ (names : Resumption) (plan : Plan) (text : List ℕ) (before : Outside)
       abbrev texts : List (List ℕ)
       texts = names.specification ∷ names.state ∷ []
 
-      saved_by : IsSavedAs is_front.text plan is_front.bytes start front → IsSavedAs text plan read.bytes start front
-      saved_by saved = record {
-        of = saved.of;
-        fine = saved.fine;
-        text = text_told names.state read.bytes is_front.bytes read.is_text is_front.bytes_are
-            ∙ (saved.text ∙ ap (λ (t : List ℕ). state_text t plan (state_of plan start front)) (sym (is_text is_front.text is_front.text_is)));
-      }
-
       saved : IsSavedAs text plan read.bytes start front
-      saved = saved_by (is_front.saved plan (is_plan is_front.text is_front.text_is))
+      saved = front_saved names.specification names.state text plan before.shelf one is_plan is_text read_first read.bytes read.is_text start front is_front
 
       set : setting_in kept ≡ s
       set =
@@ -285,6 +241,6 @@ module _ (names : Resumption) (plan : Plan) (text : List ℕ) (before : Outside)
 
 -- a specification that has no plan, or no memory to tell
 pub works_unplanned_state : (end : Unplanned) (names : Resumption) (before after : Outside) → AreUntouched before after → PlansName (Err end) names.specification before.shelf after.shelf → WorksResumed (without_plan end) names before after
-works_unplanned_state unplanned.Unreadable names before after early p = record { has_failed = first_is_failed_ask names.specification before.shelf after.shelf p; rose = p.rose; early = early }
-works_unplanned_state (unplanned.Refused r) names before after early p = record { cause = p.refused; asks = asks_noted names.specification before.shelf after.shelf p.shelf; count = ap (λ (s : ShelfState). s.count) p.shelf; early = early }
+works_unplanned_state unplanned.Unreadable names before after early p = first_unread names.specification before after early p
+works_unplanned_state (unplanned.Refused r) names before after early p = plan_refused r names.specification before after early p
 works_unplanned_state unplanned.Memory names before after early p = inl early

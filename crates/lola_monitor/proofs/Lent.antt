@@ -16,9 +16,8 @@ use Rattle.lola_rows.specs.Reading.{Shape, fresh, shape_of}
 use Rattle.lola_feed.specs.Feeding.{Working, beginning, to_come}
 use Rattle.lola_feed.specs.declared.worker.SourceEnd as worker
 use Rattle.lola_feed.specs.declared.worker.SourceEnd.TheVariants as finish
-use Rattle.lola_report_lines.specs.declared.end.EndLine.TheVariants.{Done, UnreadableSource}
-use Rattle.lola_model.specs.Runs.{final_lines, settled_lines, settled_model, whole_model}
-use Rattle.lola_monitor_run.specs.Verdicts.{AreOfSources, Setting, late_count, most_rows}
+use Rattle.lola_report.specs.declared.end.EndLine.TheVariants.{Done, UnreadableSource}
+use Rattle.lola_monitor_run.specs.Verdicts.{AreOfSources, Setting, most_rows}
 use Rattle.lola_monitor_run.specs.Running.{Keeping, setting_in}
 use Rattle.lola_monitor_run.specs.declared.stop.Stop.{Stop}
 use Rattle.lola_monitor_run.specs.declared.stop.Stop.TheVariants as stop
@@ -29,14 +28,16 @@ use Rattle.lola_feed.specs.Lending as shelves
 use Rattle.lola_feed.specs.Lending.{AreRooms, Fetches, HasReturned, IsLent, IsNotGiven, IsStopped, asks_of, counts_of, places_of}
 use Rattle.lola_feed.specs.declared.sources.FetchStop.{FetchStop}
 use Rattle.lola_feed.specs.declared.sources.FetchStop.TheVariants as fetch
+use Rattle.lola_monitor.specs.Causes.{AllHome}
 use Rattle.lola_monitor.specs.Monitor.{AllBegin, AllEnd, AllRead, Begins, Ends, GoInTurns, MalformedSource, Outside, asks_between, fault_line, first_failed_ask, first_malformed, is_failed_ask, outside, source_rows}
 use Rattle.lola_monitor.specs.Pasts.{done_line_behind}
-use Rattle.lola_monitor.specs.Outcomes.{AllHome, ArePutBehind, BrokenRun, CameHome, CutFaultRun, CutRun, EndedRun, EndsSources, FaultRun, Grew, IsAtDeadlineBehind, NotBegunRun, NotGivenRun, OutcomeAfter, RunsSources, SourcesRun, TakesSources, UnfinishedRun, end_by, end_of, ends_of, first_failed, line_of, source_end, unfetched}
+use Rattle.lola_monitor.specs.Outcomes.{ArePutBehind, BrokenRun, CameHome, CutFaultRun, CutRun, EndedRun, EndsSources, FaultRun, Grew, IsAtDeadlineBehind, NotBegunRun, NotGivenRun, OutcomeAfter, RunsSources, SourcesRun, TakesSources, UnfinishedRun, end_by, end_of, ends_of, first_failed, line_of, source_end, unfetched}
 use Rattle.lola_monitor.specs.declared.ending.SourcesEnd.{SourcesEnd}
 use Rattle.lola_monitor.specs.declared.ending.SourcesEnd.TheVariants as sources_end
-use Rattle.lola_monitor.specs.declared.outcome.CallEnd.{CallEnd}
-use Rattle.lola_monitor.specs.declared.outcome.CallEnd.TheVariants.{Line, Memory}
+use Rattle.lola_monitor.specs.declared.call_end.CallEnd.{CallEnd}
+use Rattle.lola_monitor.specs.declared.call_end.CallEnd.TheVariants.{Line, Memory}
 use Rattle.lola_monitor.proofs.Calls.{between, grew_all, names_given}
+use Rattle.lola_monitor.proofs.DoneLines.{done_counts}
 use Rattle.lola_monitor.proofs.FailedAsks.{Fits, all_counted, ask_not_given, counted, first_is, first_not_given, front_asked, get_counted, names_counted, none_counted, none_failed, none_failed_ask, none_malformed, plainly_given, some_counted}
 use Rattle.lola_monitor.proofs.Listed.{get_beside, get_image, image_get}
 
@@ -79,10 +80,6 @@ not_failed (Some finish.Memory) count none fit = absurd fit
 
 zero_of : (count : ℕ) → nat_lt 0 count ≡ false → count ≡ 0
 zero_of count is = grind (arith, nat_tests)
-
--- what is left of a sum
-left_of : (one other sum : ℕ) → one + other ≡ sum → other ≡ sum - one
-left_of one other sum is = omega (arith, is)
 
 module _ (front : List Entry) (in_turns : Bool) (names : List (List ℕ)) (before after : Outside) (kept0 kept1 : Keeping) (lent last : List Working) where
   abbrev olds : List Supply
@@ -256,14 +253,7 @@ module _ (front : List Entry) (in_turns : Bool) (names : List (List ℕ)) (befor
 
     -- the counts of the last line
     done_is : (w : ThroughWellBehind in_turns front first final) → Done kept1.accepted kept1.late kept1.state.steps kept1.state.lines ≡ done_line_behind s front w.through.came.journal
-    done_is w =
-        let journal = w.through.came.journal in
-        let steps = length (whole_model s.plan s.start (front ++ journal)) - length (settled_model s.plan s.start front) in
-        let lines = length (final_lines s.plan s.start (front ++ journal) s.show) - length (settled_lines s.plan s.start front s.show) in
-        ap (λ a. Done a kept1.late kept1.state.steps kept1.state.lines) w.accepted
-        ∙ (ap (λ l. Done (length (accepted journal)) l kept1.state.steps kept1.state.lines) w.late
-        ∙ (ap (λ n. Done (length (accepted journal)) (late_count journal) n kept1.state.lines) (left_of (length (settled_model s.plan s.start front)) kept1.state.steps (length (whole_model s.plan s.start (front ++ journal))) w.steps)
-        ∙ ap (λ v. Done (length (accepted journal)) (late_count journal) steps v) (left_of (length (settled_lines s.plan s.start front s.show)) kept1.state.lines (length (final_lines s.plan s.start (front ++ journal) s.show)) w.lines)))
+    done_is w = done_counts s front w.through.came.journal kept1 w.accepted w.late w.steps w.lines
 
     none_first : (w : ThroughWellBehind in_turns front first final) → first_failed (ends_of last) ≡ None → first_failed_ask asks ≡ None
     none_first w none = first_is_failed w.through.came.journal w.fed ∙ none

@@ -9,11 +9,13 @@ pub mod Asking
 pub mod AnyCommand
 pub mod Calls
 pub mod Laws
+pub mod DoneLines
 pub mod Lent
-pub mod Options
+pub mod Starts
 pub mod BehindNothing
 pub mod Working
 pub mod TextsFirst
+pub mod TextsRefused
 pub mod GoneOn
 pub mod StateRuns
 pub mod Means
@@ -23,6 +25,8 @@ pub mod Loading
 pub mod SavingStates
 pub mod SnapshotRows
 pub mod SnapshotWorks
+pub mod SourceCauses
+pub mod CallCauses
 pub mod SnapshotMeans
 pub mod SnapshotEnds
 pub mod SnapshotStatuses
@@ -30,6 +34,8 @@ pub mod ReplayMeans
 pub mod ReplayStatuses
 pub mod DrillEnds
 pub mod Ends
+pub mod RefusalEnds
+pub mod CauseStatuses
 pub mod ResumedEnds
 pub mod Statuses
 pub mod ResumedStatuses

@@ -9,8 +9,8 @@ use Rattle.lola_engine.specs.declared.engine.EngineState.{EngineState}
 use Rattle.lola_instances.specs.declared.store.BoundedStore.{BoundedStore}
 use Rattle.lola_save.specs.Opening.{IsLoadedFrom}
 use Rattle.lola_save.specs.declared.end.StateEnd.TheVariants as state_end
-use Rattle.lola_save_law.specs.JournalStates.{IsJournalOf, state_of}
-use Rattle.lola_save_law.specs.Resuming.{ServesAsStart}
+use Rattle.lola_save_text.specs.JournalStates.{IsJournalOf, state_of}
+use Rattle.lola_save_text.specs.Resuming.{ServesAsStart}
 use Rattle.lola_save_read.specs.Ends.{IsReadEnd}
 use Rattle.lola_save_read.specs.declared.read.ReadEnd.{ReadEnd}
 use Rattle.lola_save_read.specs.declared.read.ReadEnd.TheVariants as read_end
@@ -22,8 +22,8 @@ use Rattle.lola_save_text.specs.declared.state.SavedState.{SavedState}
 use Rattle.lola_monitor.specs.Outcomes.{noted}
 use Rattle.lola_monitor.specs.Replaying.{IsText}
 use Rattle.lola_monitor.specs.Stating.{IsOfNoJournal, Loaded, NoEngine, Unloads, refusal_of}
-use Rattle.lola_monitor.specs.declared.outcome.Unloaded.{Unloaded}
-use Rattle.lola_monitor.specs.declared.outcome.Unloaded.TheVariants as unloaded
+use Rattle.lola_monitor.specs.declared.call_end.Unloaded.{Unloaded}
+use Rattle.lola_monitor.specs.declared.call_end.Unloaded.TheVariants as unloaded
 use Rattle.lola_monitor.proofs.Calls.{grew_noted}
 
 -- a text tells one state

@@ -9,7 +9,7 @@ use Rattle.lola_replay.specs.declared.finding.Finding.TheVariants.{Same, TraceDi
 use Rattle.lola_monitor.specs.Monitor.{Call, IsEarly, Outside, Wrote, call}
 use Rattle.lola_monitor.specs.Conclusions.{Concluded}
 use Rattle.lola_monitor.specs.Outcomes.{AreUntouched, StoodFound, StoodUnread}
-use Rattle.lola_monitor.specs.declared.outcome.CallEnd.TheVariants.{Replayed}
+use Rattle.lola_monitor.specs.declared.call_end.CallEnd.TheVariants.{Replayed}
 use Rattle.lola_monitor.proofs.Means.{Means, means_at}
 
 module _ (words : List (List ℕ)) (before after : Outside) (last : SinkState) where

@@ -11,8 +11,8 @@ use Rattle.lola_monitor.specs.Monitor.{Outside, asks_between, first_failed_ask}
 use Rattle.lola_monitor.specs.Outcomes.{AreUntouched, Grew, ReadPlan, Stopped, Works, noted}
 use Rattle.lola_monitor.specs.Replaying.{IsText, OfReplay, told_by}
 use Rattle.lola_monitor.specs.ReplayOutcomes.{Judges, ReplaysTexts}
-use Rattle.lola_monitor.specs.declared.outcome.CallEnd.{CallEnd}
-use Rattle.lola_monitor.specs.declared.outcome.CallEnd.TheVariants.{Line, Drilled, Report, Replayed, Stated, CutFault, Put, Memory}
+use Rattle.lola_monitor.specs.declared.call_end.CallEnd.{CallEnd}
+use Rattle.lola_monitor.specs.declared.call_end.CallEnd.TheVariants.{Line, Drilled, Report, Replayed, Stated, CutFault, Put, Memory}
 use Rattle.lola_monitor.proofs.Calls.{between, grew_noted, grew_stopped, grew_twice}
 
 module _ (plan : Plan) (names : ReplayNames) (before : ShelfState) where

@@ -1,30 +1,33 @@
 -- The last line of a run that goes on from a state, and its status.
 use Rattle.std.proofs.Common.{◌≡◌, ◌⊎◌, ◌≤◌, ℕ, zero, suc, List, ◌++◌, Option, inl, inr, sym, ap, ◌∙◌, subst, arith}
 use Rattle.lola_port.specs.States.{PutBroke, ShelfState, SinkState, grown}
-use Rattle.lola_value.specs.declared.front.Refusal.{Refusal}
 use Rattle.lola_model.specs.Faults.{RunFault}
 use Rattle.lola_model.specs.declared.journal.Entry.{Entry}
 use Rattle.lola_model.specs.declared.plan.Plan.{Plan}
-use Rattle.lola_report_lines.specs.Ends.{end_text}
-use Rattle.lola_report_lines.specs.declared.end.EndLine.{EndLine}
-use Rattle.lola_report_lines.specs.declared.end.EndLine.TheVariants.{Done, Usage, Refused, Malformed, Fault, UnreadableSpecification, UnreadableSource, Analysed}
+use Rattle.lola_report.specs.Ends.{end_text}
+use Rattle.lola_report.specs.declared.end.EndLine.{EndLine}
+use Rattle.lola_report.specs.declared.end.EndLine.TheVariants.{Done, Usage, Refused, Malformed, Fault, UnreadableSpecification, UnreadableSource, Analysed}
 use Rattle.lola_save.specs.StateEnds.{state_end_text}
 use Rattle.lola_save.specs.declared.end.StateEnd.{StateEnd}
 use Rattle.lola_save.specs.declared.end.StateEnd.TheVariants as state_end
 use Rattle.lola_monitor_run.specs.Behind.{HasFrontBehind, IsRowFaultBehind, verdicts_behind}
 use Rattle.lola_monitor_run.specs.Verdicts.{Setting}
+use Rattle.lola_monitor.specs.Causes.{Causes, HasCause}
 use Rattle.lola_monitor.specs.Command.{Resumption}
 use Rattle.lola_monitor.specs.Conclusions.{Concluded}
 use Rattle.lola_monitor.specs.Monitor.{Call, IsEarly, Outside, Wrote, call, fault_line}
 use Rattle.lola_monitor.specs.Outcomes as outcomes
 use Rattle.lola_monitor.specs.Outcomes.{AreUntouched}
-use Rattle.lola_monitor.specs.Pasts.{IsRefusedNamed, IsStateRefused, IsUnreadAt, IsUnreadNamed}
-use Rattle.lola_monitor.specs.Resumed.{Behind, CutsOffBehind, EndedResumed, IsAtDeadlineBehind, IsBrokenBehind, IsCutDoneBehind, IsCutMalformedBehind, IsCutOffBehind, IsCutShortBehind, IsDoneBehind, IsFaultBehind, IsMalformedBehind, IsSourceNotGiven, IsUnfinishedBehind, RowsBehind, setting_of_resumed}
-use Rattle.lola_monitor.specs.ResumedOutcomes.{GoesOn, StoodCut, StoodCutFault, StoodCutOff, StoodDone, StoodFault, StoodMalformed, StoodNotGiven, StoodRefused, StoodStateRefused, StoodUnfinished, StoodUnread, WorksResumed}
-use Rattle.lola_monitor.specs.declared.outcome.CallEnd.{CallEnd}
-use Rattle.lola_monitor.specs.declared.outcome.CallEnd.TheVariants.{Line, Drilled, Report, Replayed, Stated, CutFault, Put, Memory}
+use Rattle.lola_monitor.specs.Pasts.{IsRefusedNamed, IsStateRefused, IsUnreadNamed}
+use Rattle.lola_monitor.specs.Refusals.{StoodStateRefused}
+use Rattle.lola_monitor.specs.Resumed.{Behind, CutsOffBehind, EndedResumed, IsAtDeadlineBehind, IsBrokenBehind, IsCutDoneBehind, IsCutMalformedBehind, IsCutOffBehind, IsCutShortBehind, IsDoneBehind, IsFaultBehind, IsMalformedBehind, IsSourceNotGiven, IsUnfinishedBehind, RowsBehind, inputs_of, setting_of_resumed}
+use Rattle.lola_monitor.specs.ResumedOutcomes.{GoesOn, StoodCut, StoodCutFault, StoodCutOff, StoodDone, StoodFault, StoodMalformed, StoodNotGiven, StoodUnfinished, WorksResumed}
+use Rattle.lola_monitor.specs.declared.call_end.CallEnd.{CallEnd}
+use Rattle.lola_monitor.specs.declared.call_end.CallEnd.TheVariants.{Line, Drilled, Report, Replayed, Stated, CutFault, Put, Memory}
+use Rattle.lola_monitor.proofs.CauseStatuses.{has_cause, resumed_ends}
 use Rattle.lola_monitor.proofs.Ends.{wrote_behind, wrote_same}
 use Rattle.lola_monitor.proofs.Laws.{PutsAddUp}
+use Rattle.lola_monitor.proofs.RefusalEnds as refusals
 use Rattle.lola_monitor.proofs.Working.{broke_before}
 
 -- what each status means, by cases on the status
@@ -199,24 +202,6 @@ module _ (names : Resumption) (words : List (List ℕ)) (before after : Outside)
     out = subst (λ (l : EndLine). Wrote before.out last (end_text l)) w.line_is (wrote_same before.out after.out last (end_text line) w.early.out wrote);
   }
 
-  refused : (r : Refusal) → Wrote after.out last (end_text (Refused r)) → StoodRefused r names.specification before after → IsRefusedNamed names.specification here
-  refused r wrote w = record { refusal = r; cause = w.cause; asks = w.asks; count = w.count; trace = w.early.trace; out = wrote_same before.out after.out last (end_text (Refused r)) w.early.out wrote }
-
-  unread : (place : ℕ) (line : List ℕ) → Wrote after.out last line → StoodUnread place before after → IsUnreadAt place line here
-  unread place line wrote w = record { has_failed = w.has_failed; rose = w.rose; trace = w.early.trace; out = wrote_same before.out after.out last line w.early.out wrote }
-
-  state_refused : (end : StateEnd) → Wrote after.out last (state_end_text end) → StoodStateRefused end names before after → IsStateRefused names.specification names.state here
-  state_refused end wrote w = record {
-    plan = w.plan;
-    is_plan = w.is_plan;
-    end = end;
-    cause = w.cause;
-    asks = w.asks;
-    count = w.count;
-    trace = w.early.trace;
-    out = wrote_same before.out after.out last (state_end_text end) w.early.out wrote;
-  }
-
   early : last ≡ after.out → AreUntouched before after → IsEarly here
   early same w = record { trace = w.trace; out = same ∙ w.out }
 
@@ -237,10 +222,10 @@ module _ (names : Resumption) (words : List (List ℕ)) (before after : Outside)
   ended_unreadable n status (inr w) (inr (inl e)) = at_status 6 status names here e.0 (inr (inr (rows _ _ (λ start front. cut_short start front (UnreadableSource n) (inr e.1)) w)))
   ended_unreadable n status (inr w) (inr (inr e)) = at_status 8 status names here e.0 (inr (rows _ _ (λ start front. cut_without start front e.1 (UnreadableSource n)) w))
 
-  ended_refused : (end : StateEnd) (status : ℕ) → StoodStateRefused end names before after
+  ended_refused : (end : StateEnd) (status : ℕ) → StoodStateRefused end names.specification names.state before after
       → ((status ≡ 9) × (last ≡ grown after.out (state_end_text end))) ⊎ (((status ≡ 9) × PutBroke after.out last (state_end_text end)) ⊎ ((status ≡ 8) × (last ≡ after.out))) → P status
-  ended_refused end status w (inl e) = at_status 9 status names here e.0 (state_refused end (inl e.1) w)
-  ended_refused end status w (inr (inl e)) = at_status 9 status names here e.0 (state_refused end (inr e.1) w)
+  ended_refused end status w (inl e) = at_status 9 status names here e.0 (refusals.state_refused words before after last end names.specification names.state (inl e.1) w)
+  ended_refused end status w (inr (inl e)) = at_status 9 status names here e.0 (refusals.state_refused words before after last end names.specification names.state (inr e.1) w)
   ended_refused end status w (inr (inr e)) = at_status 8 status names here e.0 (inl (early e.1 w.early))
 
   ended_memory : (status : ℕ) → AreUntouched before after ⊎ GoesOn (λ start front. StoodUnfinished names start front before after) names before.shelf → Concluded status Memory after.out last → P status
@@ -252,8 +237,8 @@ module _ (names : Resumption) (words : List (List ℕ)) (before after : Outside)
   means_resumed parts status (Line (Done a l n v)) works (inr (inl e)) = at_status 7 status names here e.0 (rows _ _ (λ start front w. inr (inl (cut_done start front (Done a l n v) e.1 w))) works)
   means_resumed parts status (Line (Done a l n v)) works (inr (inr e)) = at_status 8 status names here e.0 (inr (rows _ _ (λ start front. done_without start front e.1 (Done a l n v)) works))
   means_resumed parts status (Line Usage) works ended = absurd works
-  means_resumed parts status (Line (Refused r)) works (inl e) = at_status 3 status names here e.0 (refused r (inl e.1) works)
-  means_resumed parts status (Line (Refused r)) works (inr (inl e)) = at_status 3 status names here e.0 (refused r (inr e.1) works)
+  means_resumed parts status (Line (Refused r)) works (inl e) = at_status 3 status names here e.0 (refusals.refused words before after last r names.specification (inl e.1) works)
+  means_resumed parts status (Line (Refused r)) works (inr (inl e)) = at_status 3 status names here e.0 (refusals.refused words before after last r names.specification (inr e.1) works)
   means_resumed parts status (Line (Refused r)) works (inr (inr e)) = at_status 8 status names here e.0 (inl (early e.1 works.early))
   means_resumed parts status (Line (Malformed m row kind)) works (inl e) = at_status 4 status names here e.0 (rows _ _ (λ start front. malformed start front parts (Malformed m row kind) e.1) works)
   means_resumed parts status (Line (Malformed m row kind)) works (inr (inl e)) =
@@ -262,16 +247,16 @@ module _ (names : Resumption) (words : List (List ℕ)) (before after : Outside)
   means_resumed parts status (Line (Fault name kind time)) works (inl e) = at_status 5 status names here e.0 (rows _ _ (λ start front. fault start front parts (Fault name kind time) (inl e.1)) works)
   means_resumed parts status (Line (Fault name kind time)) works (inr (inl e)) = at_status 5 status names here e.0 (rows _ _ (λ start front. fault start front parts (Fault name kind time) (inr e.1)) works)
   means_resumed parts status (Line (Fault name kind time)) works (inr (inr e)) = at_status 8 status names here e.0 (inr (rows _ _ (λ start front. fault_without start front e.1 (Fault name kind time)) works))
-  means_resumed parts status (Line UnreadableSpecification) works (inl e) = at_status 6 status names here e.0 (inl (inl (unread 0 (end_text UnreadableSpecification) (inl e.1) works)))
-  means_resumed parts status (Line UnreadableSpecification) works (inr (inl e)) = at_status 6 status names here e.0 (inl (inl (unread 0 (end_text UnreadableSpecification) (inr e.1) works)))
+  means_resumed parts status (Line UnreadableSpecification) works (inl e) = at_status 6 status names here e.0 (inl (inl (refusals.unread words before after last 0 (end_text UnreadableSpecification) (inl e.1) works)))
+  means_resumed parts status (Line UnreadableSpecification) works (inr (inl e)) = at_status 6 status names here e.0 (inl (inl (refusals.unread words before after last 0 (end_text UnreadableSpecification) (inr e.1) works)))
   means_resumed parts status (Line UnreadableSpecification) works (inr (inr e)) = at_status 8 status names here e.0 (inl (early e.1 works.early))
   means_resumed parts status (Line (UnreadableSource m)) works ended = ended_unreadable m status works ended
   means_resumed parts status (Line (Analysed n w)) works ended = absurd works
   means_resumed parts status (Drilled line) works ended = absurd works
   means_resumed parts status (Report text) works ended = absurd works
   means_resumed parts status (Replayed end) works ended = absurd works
-  means_resumed parts status (Stated state_end.Unreadable) works (inl e) = at_status 6 status names here e.0 (inl (inr (unread 1 (state_end_text state_end.Unreadable) (inl e.1) works)))
-  means_resumed parts status (Stated state_end.Unreadable) works (inr (inl e)) = at_status 6 status names here e.0 (inl (inr (unread 1 (state_end_text state_end.Unreadable) (inr e.1) works)))
+  means_resumed parts status (Stated state_end.Unreadable) works (inl e) = at_status 6 status names here e.0 (inl (inr (refusals.unread words before after last 1 (state_end_text state_end.Unreadable) (inl e.1) works)))
+  means_resumed parts status (Stated state_end.Unreadable) works (inr (inl e)) = at_status 6 status names here e.0 (inl (inr (refusals.unread words before after last 1 (state_end_text state_end.Unreadable) (inr e.1) works)))
   means_resumed parts status (Stated state_end.Unreadable) works (inr (inr e)) = at_status 8 status names here e.0 (inl (early e.1 works.early))
   means_resumed parts status (Stated (state_end.Damaged line)) works ended = ended_refused (state_end.Damaged line) status works ended
   means_resumed parts status (Stated state_end.OtherSpecification) works ended = ended_refused state_end.OtherSpecification status works ended
@@ -291,8 +276,8 @@ told_memory : (names : Resumption) (c : Call) → MeansResumed 8 names c → IsE
 told_memory names c (inl e) = inl e
 told_memory names c (inr g) = inr g.rows
 
-pub ended_by_means : (status : ℕ) (names : Resumption) (c : Call) → MeansResumed status names c → EndedResumed status names c
-ended_by_means status names c means =
+pub ended_by_means : (status : ℕ) (names : Resumption) (c : Call) → MeansResumed status names c → HasCause status (inputs_of names) c → EndedResumed status names c
+ended_by_means status names c means cause =
     let at : (n : ℕ) → status ≡ n → MeansResumed n names c = λ n is. subst (λ (k : ℕ). MeansResumed k names c) is means in
     record {
       done = λ is. (at 0 is).rows;
@@ -303,12 +288,14 @@ ended_by_means status names c means =
       broken = λ is. (at 7 is).rows;
       memory = λ is. told_memory names c (at 8 is);
       state = λ is. at 9 is;
+      cause = cause;
       others = by_resumed (λ s. (s ≡ 0) ⊎ ((3 ≤ s) × (s ≤ 9))) names c (λ m. inl (omega arith)) (λ m. inr (omega arith, omega arith)) (λ m. inr (omega arith, omega arith)) (λ m. inr (omega arith, omega arith))
           (λ m. inr (omega arith, omega arith)) (λ m. inr (omega arith, omega arith)) (λ m. inr (omega arith, omega arith)) (λ m. inr (omega arith, omega arith)) status means;
     }
 
 -- what a run leaves that goes on from a state, once its last line was put or not
 pub ended_resumed : PutsAddUp → (names : Resumption) (words : List (List ℕ)) (before after : Outside) (last : SinkState) (status : ℕ) (outcome : CallEnd)
-    → WorksResumed outcome names before after → Concluded status outcome after.out last → EndedResumed status names (call words before (record after { out = last }))
-ended_resumed parts names words before after last status outcome works concluded =
+    → WorksResumed outcome names before after → Causes outcome (inputs_of names) before after → Concluded status outcome after.out last → EndedResumed status names (call words before (record after { out = last }))
+ended_resumed parts names words before after last status outcome works cause concluded =
     ended_by_means status names (call words before (record after { out = last })) (means_resumed names words before after last parts status outcome works concluded)
+    (has_cause (inputs_of names) words before after last parts status outcome (resumed_ends outcome names before after works) cause concluded)

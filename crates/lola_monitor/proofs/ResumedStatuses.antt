@@ -11,8 +11,8 @@ use Rattle.lola_front_law.proofs.PlanLiterals.{plan-texts}
 use Rattle.lola_save.specs.StateEnds.{IsRefusedState}
 use Rattle.lola_save.specs.declared.end.StateEnd.{StateEnd}
 use Rattle.lola_save.specs.declared.end.StateEnd.TheVariants as state_end
-use Rattle.lola_save_law.specs.JournalStates.{state_of}
-use Rattle.lola_save_law.proofs.Saved.{state-is-saved}
+use Rattle.lola_save_text.specs.JournalStates.{state_of}
+use Rattle.lola_save_text.proofs.StatesSaved.{state-is-saved}
 use Rattle.lola_save_text.specs.Damage.{IsStateText}
 use Rattle.lola_monitor_run.specs.Verdicts.{Setting}
 use Rattle.lola_monitor.specs.Command.{Resumption}
@@ -21,7 +21,7 @@ use Rattle.lola_monitor.specs.Monitor.{Call, Outside, Plans, call, source_rows}
 use Rattle.lola_monitor.specs.Pasts.{IsBadState, IsFrontIn, IsRefusedNamed, IsSavedAs, IsSpoiledNamed, IsStateRefused}
 use Rattle.lola_monitor.specs.Resumed.{CutsOffBehind, DecidedResumed, IsBrokenBehind, IsCleanResumed, IsMalformedBehind}
 use Rattle.lola_monitor.specs.ResumedOutcomes.{GoesOn, WorksResumed}
-use Rattle.lola_monitor.specs.declared.outcome.CallEnd.{CallEnd}
+use Rattle.lola_monitor.specs.declared.call_end.CallEnd.{CallEnd}
 use Rattle.lola_monitor.proofs.Laws.{PutsAddUp}
 use Rattle.lola_monitor.proofs.Listed.{get_beside}
 use Rattle.lola_monitor.proofs.ResumedEnds.{MeansResumed, by_resumed, means_resumed}

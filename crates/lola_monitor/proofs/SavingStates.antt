@@ -9,12 +9,12 @@ use Rattle.lola_engine.specs.declared.times.RunTimes.{RunTimes}
 use Rattle.lola_instances.specs.Stores.{bounded_remembers, bounded_seen}
 use Rattle.lola_instances.specs.declared.store.BoundedStore.{BoundedStore}
 use Rattle.lola_save.specs.declared.end.StateEnd.TheVariants as state_end
-use Rattle.lola_save_law.specs.JournalStates.{state_of}
+use Rattle.lola_save_text.specs.JournalStates.{state_of}
 use Rattle.lola_save_text.specs.Fitting.{most_steps}
 use Rattle.lola_save_text.specs.Lines.{state_text}
 use Rattle.lola_monitor_run.specs.Running.{Keeping}
 use Rattle.lola_monitor.specs.SnapshotOutcomes.{SavesState}
-use Rattle.lola_monitor.specs.declared.outcome.CallEnd.TheVariants.{Report, Stated}
+use Rattle.lola_monitor.specs.declared.call_end.CallEnd.TheVariants.{Report, Stated}
 
 -- a number that is not more than the most
 pub few_of : (b : Bool) (n most : ℕ) → (IsTrue b ↔ (most < n)) → b ≡ false → n ≤ most

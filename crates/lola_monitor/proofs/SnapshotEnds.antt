@@ -3,21 +3,24 @@ use Rattle.std.proofs.Common.{◌≡◌, ℕ, List, Option, None, Some, inl, inr
 use Rattle.lola_port.specs.States.{PutBroke, SinkState, grown}
 use Rattle.lola_model.specs.declared.journal.Entry.{Entry}
 use Rattle.lola_model.specs.declared.plan.Plan.{Plan}
-use Rattle.lola_report_lines.specs.Ends.{end_text}
-use Rattle.lola_report_lines.specs.declared.end.EndLine.{EndLine}
-use Rattle.lola_report_lines.specs.declared.end.EndLine.TheVariants.{Done, Usage, Refused, Malformed, Fault, UnreadableSpecification, UnreadableSource, Analysed}
+use Rattle.lola_report.specs.Ends.{end_text}
+use Rattle.lola_report.specs.declared.end.EndLine.{EndLine}
+use Rattle.lola_report.specs.declared.end.EndLine.TheVariants.{Done, Usage, Refused, Malformed, Fault, UnreadableSpecification, UnreadableSource, Analysed}
 use Rattle.lola_save.specs.StateEnds.{state_end_text}
 use Rattle.lola_save.specs.declared.end.StateEnd.{StateEnd}
 use Rattle.lola_save.specs.declared.end.StateEnd.TheVariants as state_end
+use Rattle.lola_monitor.specs.Causes.{Causes}
 use Rattle.lola_monitor.specs.Command.{SnapshotNames}
 use Rattle.lola_monitor.specs.Conclusions.{Concluded}
 use Rattle.lola_monitor.specs.Monitor.{Call, IsEarly, Outside, Plans, Wrote, call}
 use Rattle.lola_monitor.specs.Outcomes.{AreUntouched}
-use Rattle.lola_monitor.specs.Pasts.{IsUnreadAt}
-use Rattle.lola_monitor.specs.SnapshotOutcomes.{AreTooLong, HasMalformed, HasRowFault, IsShort, NoPast, RefusesState, SavesRows, StoodSnapshot, UnreadSnapshot, WorksSnapshot}
-use Rattle.lola_monitor.specs.Snapshots.{EndedSnapshot, HasTooManySteps, IsBrokenSnapshot, IsCutShortSnapshot, IsFaultSnapshot, IsMalformedSnapshot, IsPast, IsSaved, IsStateRefusedIn}
-use Rattle.lola_monitor.specs.declared.outcome.CallEnd.{CallEnd}
-use Rattle.lola_monitor.specs.declared.outcome.CallEnd.TheVariants.{Line, Drilled, Report, Replayed, Stated, CutFault, Put, Memory}
+use Rattle.lola_monitor.specs.SnapshotOutcomes.{AreTooLong, HasMalformed, HasRowFault, IsShort, NoPast, RefusesState, SavesRows, StoodSnapshot, WorksSnapshot}
+use Rattle.lola_monitor.specs.Snapshots.{EndedSnapshot, HasTooManySteps, IsBrokenSnapshot, IsCutShortSnapshot, IsFaultSnapshot, IsMalformedSnapshot, IsPast, IsSaved, IsStateRefusedIn, inputs_of}
+use Rattle.lola_monitor.specs.declared.call_end.CallEnd.{CallEnd}
+use Rattle.lola_monitor.specs.declared.call_end.CallEnd.TheVariants.{Line, Drilled, Report, Replayed, Stated, CutFault, Put, Memory}
+use Rattle.lola_monitor.proofs.CauseStatuses.{has_cause, snapshot_ends}
+use Rattle.lola_monitor.proofs.Laws.{PutsAddUp}
+use Rattle.lola_monitor.proofs.RefusalEnds as refusals
 use Rattle.lola_monitor.proofs.SnapshotMeans.{Has, Refuses, SnapshotMeans, ended_by, snapshot_means_at}
 
 module _ (words : List (List ℕ)) (names : SnapshotNames) (before after : Outside) (last : SinkState) where
@@ -120,16 +123,7 @@ module _ (words : List (List ℕ)) (names : SnapshotNames) (before after : Outsi
 
   refused_by : (end : StateEnd) (o : Option (List ℕ)) → RefusesState end names.specification o before after → Wrote after.out last (state_end_text end) → IsStateRefusedIn names o here
   refused_by end None r wrote = absurd r
-  refused_by end (Some state) r wrote = record {
-    plan = r.plan;
-    is_plan = r.is_plan;
-    end = end;
-    cause = r.cause;
-    asks = r.asks;
-    count = r.count;
-    trace = r.early.trace;
-    out = some r.early (state_end_text end) wrote;
-  }
+  refused_by end (Some state) r wrote = refusals.state_refused words before after last end names.specification state wrote r
 
   none_by : (end : StateEnd) (o : Option (List ℕ)) → RefusesState end names.specification o before after → (start : Option ℕ) (front : List Entry) → IsPast names before.shelf o start front → ⊥
   none_by end None r start front is = r
@@ -148,9 +142,6 @@ module _ (words : List (List ℕ)) (names : SnapshotNames) (before after : Outsi
       let plan = plan_by end names.state r in
       record { plan = plan.0; is_plan = plan.1; refused = refused_by end names.state r wrote; none = none_by end names.state r }
 
-  unread : (place : ℕ) (line : List ℕ) → UnreadSnapshot place before after → Wrote after.out last line → IsUnreadAt place line here
-  unread place line u wrote = record { has_failed = u.has_failed; rose = u.rose; trace = u.early.trace; out = some u.early line wrote }
-
   no_past : StoodSnapshot NoPast names before after → (P : SnapshotNames → Option ℕ → List Entry → Call → Type 0) → Has P names here
   no_past s P = (s.prepared, λ start front is. absurd (s.behind start front is))
 
@@ -163,9 +154,9 @@ module _ (words : List (List ℕ)) (names : SnapshotNames) (before after : Outsi
   means_snapshot status (Line (Done a l n v)) works e = absurd works
   means_snapshot status (Line Usage) works e = absurd works
   means_snapshot status (Line (Refused r)) works (inl e) =
-      snapshot_means_at 3 status names here e.0 (record { refusal = r; cause = works.cause; asks = works.asks; count = works.count; trace = works.early.trace; out = some works.early (end_text (Refused r)) (inl e.1) })
+      snapshot_means_at 3 status names here e.0 (refusals.refused words before after last r names.specification (inl e.1) works)
   means_snapshot status (Line (Refused r)) works (inr (inl e)) =
-      snapshot_means_at 3 status names here e.0 (record { refusal = r; cause = works.cause; asks = works.asks; count = works.count; trace = works.early.trace; out = some works.early (end_text (Refused r)) (inr e.1) })
+      snapshot_means_at 3 status names here e.0 (refusals.refused words before after last r names.specification (inr e.1) works)
   means_snapshot status (Line (Refused r)) works (inr (inr e)) = snapshot_means_at 8 status names here e.0 (nothing works.early e.1)
   means_snapshot status (Line (Malformed n row kind)) works (inl e) = snapshot_means_at 4 status names here e.0 (malformed (Malformed n row kind) works e.1)
   means_snapshot status (Line (Malformed n row kind)) works (inr (inl e)) = snapshot_means_at 7 status names here e.0 (cut_malformed (Malformed n row kind) works e.1)
@@ -173,8 +164,8 @@ module _ (words : List (List ℕ)) (names : SnapshotNames) (before after : Outsi
   means_snapshot status (Line (Fault name kind time)) works (inl e) = snapshot_means_at 5 status names here e.0 (fault (Fault name kind time) works (inl e.1))
   means_snapshot status (Line (Fault name kind time)) works (inr (inl e)) = snapshot_means_at 5 status names here e.0 (fault (Fault name kind time) works (inr e.1))
   means_snapshot status (Line (Fault name kind time)) works (inr (inr e)) = snapshot_means_at 8 status names here e.0 (nothing works.early e.1)
-  means_snapshot status (Line UnreadableSpecification) works (inl e) = snapshot_means_at 6 status names here e.0 (inl (inl (unread 0 (end_text UnreadableSpecification) works (inl e.1))))
-  means_snapshot status (Line UnreadableSpecification) works (inr (inl e)) = snapshot_means_at 6 status names here e.0 (inl (inl (unread 0 (end_text UnreadableSpecification) works (inr e.1))))
+  means_snapshot status (Line UnreadableSpecification) works (inl e) = snapshot_means_at 6 status names here e.0 (inl (inl (refusals.unread words before after last 0 (end_text UnreadableSpecification) (inl e.1) works)))
+  means_snapshot status (Line UnreadableSpecification) works (inr (inl e)) = snapshot_means_at 6 status names here e.0 (inl (inl (refusals.unread words before after last 0 (end_text UnreadableSpecification) (inr e.1) works)))
   means_snapshot status (Line UnreadableSpecification) works (inr (inr e)) = snapshot_means_at 8 status names here e.0 (nothing works.early e.1)
   means_snapshot status (Line (UnreadableSource n)) works (inl e) = snapshot_means_at 6 status names here e.0 (inr (short (UnreadableSource n) works (inl e.1)))
   means_snapshot status (Line (UnreadableSource n)) works (inr (inl e)) = snapshot_means_at 6 status names here e.0 (inr (short (UnreadableSource n) works (inr e.1)))
@@ -185,8 +176,8 @@ module _ (words : List (List ℕ)) (names : SnapshotNames) (before after : Outsi
   means_snapshot status (Report text) works (inr (inl e)) = snapshot_means_at 7 status names here e.0 (cut_state text works e.1)
   means_snapshot status (Report text) works (inr (inr e)) = snapshot_means_at 8 status names here e.0 (nothing works.early e.1)
   means_snapshot status (Replayed end) works e = absurd works
-  means_snapshot status (Stated state_end.Unreadable) works (inl e) = snapshot_means_at 6 status names here e.0 (inl (inr (unread 1 (state_end_text state_end.Unreadable) works (inl e.1))))
-  means_snapshot status (Stated state_end.Unreadable) works (inr (inl e)) = snapshot_means_at 6 status names here e.0 (inl (inr (unread 1 (state_end_text state_end.Unreadable) works (inr e.1))))
+  means_snapshot status (Stated state_end.Unreadable) works (inl e) = snapshot_means_at 6 status names here e.0 (inl (inr (refusals.unread words before after last 1 (state_end_text state_end.Unreadable) (inl e.1) works)))
+  means_snapshot status (Stated state_end.Unreadable) works (inr (inl e)) = snapshot_means_at 6 status names here e.0 (inl (inr (refusals.unread words before after last 1 (state_end_text state_end.Unreadable) (inr e.1) works)))
   means_snapshot status (Stated state_end.Unreadable) works (inr (inr e)) = snapshot_means_at 8 status names here e.0 (nothing works.early e.1)
   means_snapshot status (Stated (state_end.Damaged line)) works (inl e) = means_refused status (refuses (state_end.Damaged line) works (inl e.1)) e.0
   means_snapshot status (Stated (state_end.Damaged line)) works (inr (inl e)) = means_refused status (refuses (state_end.Damaged line) works (inr e.1)) e.0
@@ -202,5 +193,7 @@ module _ (words : List (List ℕ)) (names : SnapshotNames) (before after : Outsi
   means_snapshot status Memory works e = snapshot_means_at 8 status names here e.0 (nothing works e.1)
 
   -- what a snapshot leaves, by its status
-  pub ended_snapshot : (status : ℕ) (outcome : CallEnd) → WorksSnapshot outcome names before after → Concluded status outcome after.out last → EndedSnapshot status names here
-  ended_snapshot status outcome works e = ended_by status names here (means_snapshot status outcome works e)
+  pub ended_snapshot : PutsAddUp → (status : ℕ) (outcome : CallEnd) → WorksSnapshot outcome names before after → Causes outcome (inputs_of names) before after → Concluded status outcome after.out last → EndedSnapshot status names here
+  ended_snapshot parts status outcome works cause e =
+      ended_by status names here (means_snapshot status outcome works e)
+      (has_cause (inputs_of names) words before after last parts status outcome (snapshot_ends outcome names before after works) cause e)

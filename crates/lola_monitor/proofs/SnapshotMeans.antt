@@ -2,11 +2,12 @@
 use Rattle.std.proofs.Common.{◌≡◌, ◌⊎◌, ℕ, zero, suc, ◌≤◌, List, Option, refl, sym, subst, inl, inr, arith}
 use Rattle.lola_model.specs.declared.journal.Entry.{Entry}
 use Rattle.lola_model.specs.declared.plan.Plan.{Plan}
+use Rattle.lola_monitor.specs.Causes.{HasCause}
 use Rattle.lola_monitor.specs.Command.{SnapshotNames}
 use Rattle.lola_monitor.specs.Monitor.{Call, IsEarly, Plans}
 use Rattle.lola_monitor.specs.Pasts.{IsRefusedNamed, IsUnreadNamed}
 use Rattle.lola_monitor.specs.SnapshotOutcomes.{Prepared}
-use Rattle.lola_monitor.specs.Snapshots.{Behind, EndedSnapshot, HasTooManySteps, IsBrokenSnapshot, IsCutShortSnapshot, IsFaultSnapshot, IsMalformedSnapshot, IsPast, IsSaved, IsStateRefusedIn}
+use Rattle.lola_monitor.specs.Snapshots.{Behind, EndedSnapshot, HasTooManySteps, IsBrokenSnapshot, IsCutShortSnapshot, IsFaultSnapshot, IsMalformedSnapshot, IsPast, IsSaved, IsStateRefusedIn, inputs_of}
 
 -- it was prepared, and this came of it behind whatever journal it goes on from
 abbrev pub Has : (SnapshotNames → Option ℕ → List Entry → Call → Type 0) → SnapshotNames → Call → Type 0
@@ -66,8 +67,8 @@ IsSnapshotStatus n = (n ≡ 0) ⊎ ((3 ≤ n) × (n ≤ 9))
 some_status : (n : ℕ) → 3 ≤ n → n ≤ 9 → IsSnapshotStatus n
 some_status n least most = inr (least, most)
 
-pub ended_by : (status : ℕ) (names : SnapshotNames) (c : Call) → SnapshotMeans status names c → EndedSnapshot status names c
-ended_by status names c means = record {
+pub ended_by : (status : ℕ) (names : SnapshotNames) (c : Call) → SnapshotMeans status names c → HasCause status (inputs_of names) c → EndedSnapshot status names c
+ended_by status names c means cause = record {
   done = λ is. (subst (λ n. SnapshotMeans n names c) is means).1;
   refused = λ is. subst (λ n. SnapshotMeans n names c) is means;
   malformed = λ is. (subst (λ n. SnapshotMeans n names c) is means).1;
@@ -76,6 +77,7 @@ ended_by status names c means = record {
   broken = λ is. (subst (λ n. SnapshotMeans n names c) is means).1;
   memory = λ is. subst (λ n. SnapshotMeans n names c) is means;
   state = λ is. refusing names c (subst (λ n. SnapshotMeans n names c) is means);
+  cause = cause;
   others = by_snapshot IsSnapshotStatus names c (λ m. inl refl) (λ m. some_status 3 (omega arith) (omega arith)) (λ m. some_status 4 (omega arith) (omega arith)) (λ m. some_status 5 (omega arith) (omega arith))
       (λ m. some_status 6 (omega arith) (omega arith)) (λ m. some_status 7 (omega arith) (omega arith)) (λ m. some_status 8 (omega arith) (omega arith)) (λ m. some_status 9 (omega arith) (omega arith)) status means;
 }

@@ -13,9 +13,9 @@ use Rattle.lola_feed.specs.Feeding.{Working}
 use Rattle.lola_feed.specs.Lending.{AreRooms, Fetches, HasReturned, IsLent, IsNotGiven, asks_of, counts_of, places_of}
 use Rattle.lola_feed.specs.declared.sources.FetchStop.{FetchStop}
 use Rattle.lola_feed.specs.declared.sources.FetchStop.TheVariants as fetch
-use Rattle.lola_report_lines.specs.declared.end.EndLine.TheVariants.{UnreadableSource}
+use Rattle.lola_report.specs.declared.end.EndLine.TheVariants.{UnreadableSource}
 use Rattle.lola_save.specs.declared.end.StateEnd.TheVariants as state_end
-use Rattle.lola_save_law.specs.JournalStates.{state_of}
+use Rattle.lola_save_text.specs.JournalStates.{state_of}
 use Rattle.lola_save_text.specs.Fitting.{most_steps}
 use Rattle.lola_save_text.specs.Lines.{state_text}
 use Rattle.lola_monitor_run.specs.Behind.{CameBehind, IsBehind, RanToEndBehind, RanToFailedPutBehind, RunsBehind}
@@ -29,15 +29,16 @@ use Rattle.lola_monitor.specs.Outcomes.{Grew, end_by, end_of, ends_of, first_fai
 use Rattle.lola_monitor.specs.SnapshotOutcomes.{CutRows, EndsAfter, LongRows, RowsEnded, RowsTaken, RunsRows, SavedRows, SavesState, StandingRows, StopsRows, TookRows, nowhere, steps_of}
 use Rattle.lola_monitor.specs.declared.ending.SourcesEnd.{SourcesEnd}
 use Rattle.lola_monitor.specs.declared.ending.SourcesEnd.TheVariants as sources_end
-use Rattle.lola_monitor.specs.declared.outcome.CallEnd.{CallEnd}
-use Rattle.lola_monitor.specs.declared.outcome.CallEnd.TheVariants.{Line, Drilled, Report, Replayed, Stated, CutFault, Put, Memory}
+use Rattle.lola_monitor.specs.declared.call_end.CallEnd.{CallEnd}
+use Rattle.lola_monitor.specs.declared.call_end.CallEnd.TheVariants.{Line, Drilled, Report, Replayed, Stated, CutFault, Put, Memory}
 use Rattle.lola_monitor.proofs.Calls.{between, grew_all}
 use Rattle.lola_monitor.proofs.FailedAsks.{ask_not_given, first_not_given, front_asked, given_at, names_counted}
 use Rattle.lola_monitor.proofs.Lent.{AreFresh, all_end, all_home, all_read, all_whole, as_many, came_home, first_is_failed, grew_lent, grew_unfetched, lent_fresh, run_is}
 use Rattle.lola_monitor.proofs.Listed.{get_beside}
 use Rattle.lola_monitor.proofs.Working.{no_turns}
 
-still : Rose 0 0 → ⊥
+-- a count that stands has not risen
+pub still : Rose 0 0 → ⊥
 still rose = omega (arith, rose)
 
 -- what was taken of sources was at their front

@@ -12,7 +12,7 @@ use Rattle.lola_monitor.specs.Monitor.{Call, Outside, Plans, call, source_rows}
 use Rattle.lola_monitor.specs.Pasts.{IsReadable, IsRefusedNamed, IsSpoiledNamed, IsUnreadNamed}
 use Rattle.lola_monitor.specs.SnapshotOutcomes.{HasState, Prepared, WorksSnapshot}
 use Rattle.lola_monitor.specs.Snapshots.{DecidedSnapshot, HasTooManySteps, IsBadStateIn, IsBrokenSnapshot, IsCleanSnapshot, IsCutShortSnapshot, IsFaultSnapshot, IsMalformedSnapshot, IsSaved, RowsBehind, steps_with}
-use Rattle.lola_monitor.specs.declared.outcome.CallEnd.{CallEnd}
+use Rattle.lola_monitor.specs.declared.call_end.CallEnd.{CallEnd}
 use Rattle.lola_monitor.proofs.Listed.{get_beside}
 use Rattle.lola_monitor.proofs.SnapshotEnds.{means_snapshot}
 use Rattle.lola_monitor.proofs.SnapshotMeans.{Has, Refuses, SnapshotMeans, by_snapshot}

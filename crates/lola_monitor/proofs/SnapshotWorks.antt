@@ -1,43 +1,43 @@
 -- A snapshot, by what its texts and its rows came to.
-use Rattle.std.proofs.Common.{◌≡◌, ℕ, ◌+◌, ◌⊎◌, List, [], ◌∷◌, ◌++◌, Option, None, Some, Err, Bool, if◌then◌else◌, map, inl, inr, refl, sym, ap, ◌∙◌, subst, append_assoc, true}
+use Rattle.std.proofs.Common.{◌≡◌, ℕ, ◌+◌, ◌⊎◌, List, [], ◌∷◌, ◌++◌, Option, None, Some, Err, map, inl, inr, refl, sym, ap, ◌∙◌, subst, append_assoc, true}
 use Rattle.std.specs.Option.{option_map, option_to_list}
 use Rattle.lola_port.specs.Asks.{given_ask}
 use Rattle.lola_port.specs.States.{Rose, ShelfState, SinkState}
 use Rattle.lola_port.specs.declared.traits.Ask.{Ask}
 use Rattle.lola_model.specs.Acceptance.{IsAccepted}
-use Rattle.lola_model.specs.Journal.{accepted, known_start, opening_time, rows_of}
+use Rattle.lola_model.specs.Journal.{accepted, known_start, rows_of}
 use Rattle.lola_model.specs.declared.journal.Entry.{Entry}
 use Rattle.lola_model.specs.declared.journal.Show.{Show}
 use Rattle.lola_model.specs.declared.journal.Show.TheVariants as show
 use Rattle.lola_model.specs.declared.plan.Plan.{Plan}
 use Rattle.lola_rows.specs.Rows.{Whole}
-use Rattle.lola_report_lines.specs.declared.end.EndLine.{EndLine}
-use Rattle.lola_report_lines.specs.declared.end.EndLine.TheVariants.{Done, Usage, Refused, Malformed, Fault, UnreadableSpecification, UnreadableSource, Analysed}
-use Rattle.lola_save.specs.declared.end.StateEnd.{StateEnd}
+use Rattle.lola_report.specs.declared.end.EndLine.{EndLine}
+use Rattle.lola_report.specs.declared.end.EndLine.TheVariants.{Done, Usage, Refused, Malformed, Fault, UnreadableSpecification, UnreadableSource, Analysed}
 use Rattle.lola_save.specs.declared.end.StateEnd.TheVariants as state_end
-use Rattle.lola_save.specs.StateEnds.{IsRefusedState}
-use Rattle.lola_save_law.specs.JournalStates.{state_of}
+use Rattle.lola_save_text.specs.JournalStates.{state_of}
 use Rattle.lola_save_text.specs.Damage.{IsStateText}
 use Rattle.lola_save_text.specs.Lines.{state_text}
 use Rattle.lola_monitor_run.specs.Behind.{IsBehind}
 use Rattle.lola_monitor_run.specs.Running.{Keeping, setting_in}
 use Rattle.lola_monitor_run.specs.Verdicts.{Setting}
+use Rattle.lola_monitor.specs.Causes.{AllHome}
 use Rattle.lola_monitor.specs.Command.{SnapshotNames}
 use Rattle.lola_monitor.specs.Monitor.{AllBegin, AllRead, Begins, Ends, GoInTurns, HasItsModels, HasRows, Plans, WereGiven, asks_between, first_failed_ask, outside}
-use Rattle.lola_monitor.specs.Outcomes.{AllHome, CameHome, PlansName, SourcesRun, noted, without_plan}
-use Rattle.lola_monitor.specs.Pasts.{AllGivenIn, IsFrontIn, IsSavedAs, RanBehind, texts_of}
+use Rattle.lola_monitor.specs.Outcomes.{CameHome, PlansName, SourcesRun, noted, without_plan}
+use Rattle.lola_monitor.specs.Pasts.{AllGivenIn, RanBehind, texts_of}
 use Rattle.lola_monitor.specs.Replaying.{IsText}
 use Rattle.lola_monitor.specs.ResumedOutcomes.{RunRead, without_engine}
-use Rattle.lola_monitor.specs.SnapshotOutcomes.{AreSettledRows, AreTooLong, CutRows, FaultRows, HasMalformed, HasRowFault, HasState, IsShort, LongRows, MalformedRows, NoPast, RefusesState, RowsEnd, RowsTaken, RunsRows, SavedRows, SavesRows, StoodRefused, StoodSnapshot, WholeRows, WorksOver, WorksSnapshot}
+use Rattle.lola_monitor.specs.SnapshotOutcomes.{AreSettledRows, AreTooLong, CutRows, FaultRows, HasMalformed, HasRowFault, HasState, IsShort, LongRows, MalformedRows, NoPast, RefusesState, RowsEnd, RowsTaken, RunsRows, SavedRows, SavesRows, StoodSnapshot, WholeRows, WorksOver, WorksSnapshot}
 use Rattle.lola_monitor.specs.Snapshots.{IsPast, inputs_of, steps_setting}
-use Rattle.lola_monitor.specs.Stating.{NoEngine, StateRefused}
-use Rattle.lola_monitor.specs.declared.outcome.CallEnd.{CallEnd}
-use Rattle.lola_monitor.specs.declared.outcome.CallEnd.TheVariants.{Line, Drilled, Report, Replayed, Stated, CutFault, Put, Memory}
-use Rattle.lola_monitor.specs.declared.outcome.Unloaded.{Unloaded}
-use Rattle.lola_monitor.specs.declared.outcome.Unloaded.TheVariants as unloaded
-use Rattle.lola_monitor.specs.declared.outcome.Unplanned.{Unplanned}
-use Rattle.lola_monitor.specs.declared.outcome.Unplanned.TheVariants as unplanned
-use Rattle.lola_monitor.proofs.Calls.{between}
+use Rattle.lola_monitor.specs.Stating.{NoEngine}
+use Rattle.lola_monitor.specs.declared.call_end.CallEnd.{CallEnd}
+use Rattle.lola_monitor.specs.declared.call_end.CallEnd.TheVariants.{Line, Drilled, Report, Replayed, Stated, CutFault, Put, Memory}
+use Rattle.lola_monitor.specs.declared.call_end.Unloaded.{Unloaded}
+use Rattle.lola_monitor.specs.declared.call_end.Unloaded.TheVariants as unloaded
+use Rattle.lola_monitor.specs.declared.call_end.Unplanned.{Unplanned}
+use Rattle.lola_monitor.specs.declared.call_end.Unplanned.TheVariants as unplanned
+use Rattle.lola_monitor.proofs.Calls.{asked_both, between}
+use Rattle.lola_monitor.proofs.TextsRefused.{first_unread, front_saved, plan_refused, second_unread, state_refused, text_told}
 
 -- no ask has failed behind those that were given
 none_further : (o : Option ℕ) → option_map (λ n. n + 1) o ≡ None → o ≡ None
@@ -51,11 +51,6 @@ none_past (text ∷ texts) asks is = none_past texts asks (none_further (first_f
 given_more : (texts names : List (List ℕ)) → map given_ask (texts ++ names) ≡ map given_ask texts ++ map given_ask names
 given_more [] names = refl
 given_more (text ∷ texts) names = ap (λ (l : List Ask). given_ask text ∷ l) (given_more texts names)
-
--- the specification was asked for, and then another text
-two_asks : (name : List ℕ) (before mid after : ShelfState) (ask : Ask) → mid ≡ noted before name → after.asks ≡ mid.asks ++ ask ∷ [] → asks_between before after ≡ given_ask name ∷ ask ∷ []
-two_asks name before mid after ask noted_is is =
-    between before after (given_ask name ∷ ask ∷ []) (is ∙ ap (λ (s : ShelfState). s.asks ++ ask ∷ []) noted_is ∙ append_assoc before.asks (given_ask name ∷ []) (ask ∷ []))
 
 -- ---- the rows of its sources
 
@@ -234,20 +229,12 @@ past_anew names shelf plan kept anew stands setting start front is =
     (subst (λ (f : List Entry). IsBehind f f kept) (sym p.1) stands, setting ∙ ap (λ (o : Option ℕ). record { plan = plan; start = o; show = show.Triggers }) (sym known))
 
 module _ (names : SnapshotNames) (specification state : List ℕ) (plan : Plan) (before mid : ShelfState)
-    (is_text : IsText (before.told names.specification) specification) (is_plan : Plans (before.told names.specification) plan) (told_is : mid.told ≡ before.told) where
-  -- a journal whose state is told is one whose state's text was read
-  front_saved : (bytes : List ℕ) → IsText (mid.told state) bytes → (start : Option ℕ) (front : List Entry) → IsFrontIn before names.specification state start front → IsSavedAs specification plan bytes start front
-  front_saved bytes is start front f =
-      let read : bytes ≡ f.bytes = is f.bytes (ap (λ (t : List ℕ → Option (List ℕ)). t state) told_is ∙ f.bytes_are) in
-      let written : specification ≡ f.text = is_text f.text f.text_is in
-      subst (λ (t : List ℕ). IsSavedAs t plan bytes start front) (sym written)
-      (subst (λ (b : List ℕ). IsSavedAs f.text plan b start front) (sym read) (f.saved plan (is_plan f.text f.text_is)))
-
+    (is_text : IsText (before.told names.specification) specification) (is_plan : Plans (before.told names.specification) plan) (read_first : mid ≡ noted before names.specification) where
   -- a state that was read
   module _ (after : ShelfState) (kept : Keeping) (merge : Option ℕ) (is_state : names.state ≡ Some state) (r : RunRead specification plan show.Triggers state kept merge mid after) where
     pub past_read : (start : Option ℕ) (front : List Entry) → IsPast names before names.state start front → IsBehind front front kept × (setting_in kept ≡ steps_setting plan start front)
     past_read start front is =
-        let saved = front_saved r.bytes r.is_text start front (subst (λ (o : Option (List ℕ)). IsPast names before o start front) is_state is) in (
+        let saved = front_saved names.specification state specification plan before mid is_plan is_text read_first r.bytes r.is_text start front (subst (λ (o : Option (List ℕ)). IsPast names before o start front) is_state is) in (
           r.stands start front saved,
           ap (λ (p : Plan). record { plan = p; start = kept.state.given_start; show = kept.state.show }) r.plan_is
               ∙ (ap (λ (o : Option ℕ). record { plan = plan; start = o; show = kept.state.show }) (r.start_is start front saved)
@@ -258,58 +245,28 @@ module _ (names : SnapshotNames) (specification state : List ℕ) (plan : Plan) 
     pub state_read : HasState names.state specification plan before
     state_read =
         subst (λ (o : Option (List ℕ)). HasState o specification plan before) (sym is_state)
-        (λ bytes told. subst (λ (b : List ℕ). IsStateText specification plan b) (r.is_text bytes (ap (λ (t : List ℕ → Option (List ℕ)). t state) told_is ∙ told)) r.is_state)
-
-  -- it was refused
-  refused : (end : StateEnd) (after : ShelfState) (out trace : SinkState) → mid ≡ noted before names.specification → StateRefused end specification plan state mid after
-      → StoodRefused end names.specification state (outside before out trace) (outside after out trace)
-  refused end after out trace noted_is r = record {
-    plan = plan;
-    is_plan = is_plan;
-    cause = λ text bytes told given.
-        subst (λ (t : List ℕ). IsRefusedState t plan bytes end) (is_text text told)
-        (subst (λ (b : List ℕ). IsRefusedState specification plan b end) (r.is_text bytes (ap (λ (t : List ℕ → Option (List ℕ)). t state) told_is ∙ given)) r.refused);
-    none = λ start front f. r.none start front (front_saved r.bytes r.is_text start front f);
-    asks = two_asks names.specification before mid after (given_ask state) noted_is (ap (λ (s : ShelfState). s.asks) r.shelf);
-    count = ap (λ (s : ShelfState). s.count) r.shelf ∙ ap (λ (s : ShelfState). s.count) noted_is;
-    early = record { trace = refl; out = refl };
-  }
+        (λ bytes told. subst (λ (b : List ℕ). IsStateText specification plan b) (text_told names.specification state specification plan before mid is_plan is_text read_first r.bytes bytes r.is_text told) r.is_state)
 
   -- no engine goes on from it
-  pub works_unloaded : (end : Unloaded) (after : ShelfState) (out trace : SinkState) → mid ≡ noted before names.specification → names.state ≡ Some state → NoEngine end specification plan state mid after
+  pub works_unloaded : (end : Unloaded) (after : ShelfState) (out trace : SinkState) → names.state ≡ Some state → NoEngine end specification plan state mid after
       → WorksSnapshot (without_engine end) names (outside before out trace) (outside after out trace)
-  works_unloaded (unloaded.Stated state_end.Unreadable) after out trace noted_is is_state m = record {
-    has_failed = ap first_failed_ask (two_asks names.specification before mid after m.ask noted_is m.asks) ∙ ap (λ (b : Bool). option_map (λ n. n + 1) (if b then Some 0 else option_map (λ n. n + 1) None)) m.has_failed;
-    rose = subst (λ n. Rose n after.count) (ap (λ (s : ShelfState). s.count) noted_is) m.rose;
-    early = record { trace = refl; out = refl };
-  }
-  works_unloaded (unloaded.Stated (state_end.Damaged line)) after out trace noted_is is_state r =
-      subst (λ (o : Option (List ℕ)). RefusesState (state_end.Damaged line) names.specification o (outside before out trace) (outside after out trace)) (sym is_state) (refused (state_end.Damaged line) after out trace noted_is r)
-  works_unloaded (unloaded.Stated state_end.OtherSpecification) after out trace noted_is is_state r =
-      subst (λ (o : Option (List ℕ)). RefusesState state_end.OtherSpecification names.specification o (outside before out trace) (outside after out trace)) (sym is_state) (refused state_end.OtherSpecification after out trace noted_is r)
-  works_unloaded (unloaded.Stated state_end.TooManySteps) after out trace noted_is is_state r = absurd r
-  works_unloaded unloaded.Memory after out trace noted_is is_state r = record { trace = refl; out = refl }
+  works_unloaded (unloaded.Stated state_end.Unreadable) after out trace is_state m =
+      second_unread names.specification state (outside before out trace) mid (outside after out trace) read_first (record { trace = refl; out = refl }) m
+  works_unloaded (unloaded.Stated (state_end.Damaged line)) after out trace is_state r =
+      subst (λ (o : Option (List ℕ)). RefusesState (state_end.Damaged line) names.specification o (outside before out trace) (outside after out trace)) (sym is_state)
+      (state_refused names.specification state specification plan (outside before out trace) mid is_plan is_text read_first (state_end.Damaged line) (outside after out trace) (record { trace = refl; out = refl }) r)
+  works_unloaded (unloaded.Stated state_end.OtherSpecification) after out trace is_state r =
+      subst (λ (o : Option (List ℕ)). RefusesState state_end.OtherSpecification names.specification o (outside before out trace) (outside after out trace)) (sym is_state)
+      (state_refused names.specification state specification plan (outside before out trace) mid is_plan is_text read_first state_end.OtherSpecification (outside after out trace) (record { trace = refl; out = refl }) r)
+  works_unloaded (unloaded.Stated state_end.TooManySteps) after out trace is_state r = absurd r
+  works_unloaded unloaded.Memory after out trace is_state r = record { trace = refl; out = refl }
 
 -- a specification that has no plan
 pub snapshot_unplanned : (names : SnapshotNames) (end : Unplanned) (before after : ShelfState) (out trace : SinkState) → PlansName (Err end) names.specification before after
     → WorksSnapshot (without_plan end) names (outside before out trace) (outside after out trace)
-snapshot_unplanned names unplanned.Unreadable before after out trace m = record {
-  has_failed = ap first_failed_ask (between before after (m.ask ∷ []) m.asks) ∙ ap (λ (b : Bool). if b then Some 0 else option_map (λ n. n + 1) None) m.has_failed;
-  rose = m.rose;
-  early = record { trace = refl; out = refl };
-}
-snapshot_unplanned names (unplanned.Refused r) before after out trace p = record {
-  cause = p.refused;
-  asks = between before after (given_ask names.specification ∷ []) (ap (λ (s : ShelfState). s.asks) p.shelf);
-  count = ap (λ (s : ShelfState). s.count) p.shelf;
-  early = record { trace = refl; out = refl };
-}
+snapshot_unplanned names unplanned.Unreadable before after out trace m = first_unread names.specification (outside before out trace) (outside after out trace) (record { trace = refl; out = refl }) m
+snapshot_unplanned names (unplanned.Refused r) before after out trace p = plan_refused r names.specification (outside before out trace) (outside after out trace) (record { trace = refl; out = refl }) p
 snapshot_unplanned names unplanned.Memory before after out trace p = record { trace = refl; out = refl }
-
--- ---- where its rows begin
-
-pub begins_anew : (kept : Keeping) (plan : Plan) (start : Option ℕ) → IsBehind [] [] kept → setting_in kept ≡ record { plan = plan; start = start; show = show.Triggers } → opening_time start ≡ kept.state.merged
-begins_anew kept plan start stands setting = ap (λ (s : Setting). opening_time s.start) (sym setting) ∙ sym stands.engine.merged
 
 -- ---- over a specification that was read
 
@@ -332,15 +289,13 @@ over_anew specification plan names kept mid after outcome anew stands setting ro
 pub over_read : (specification state : List ℕ) (plan : Plan) (names : SnapshotNames) (kept : Keeping) (merge : Option ℕ) (mid read after : ShelfState) (outcome : CallEnd) → names.state ≡ Some state
     → RunRead specification plan show.Triggers state kept merge mid read → RunsRows outcome specification kept names.sources read after → WorksOver outcome specification plan names mid after
 over_read specification state plan names kept merge mid read after outcome is_state r rows before out trace p is_text =
-    let told_is = told_by before mid names.specification p.shelf in
-    works_rows names plan before read after p.is_plan p.accepted p.one_model (told_by mid read state r.shelf ∙ told_is) (ap (λ (s : ShelfState). s.count) r.shelf ∙ ap (λ (s : ShelfState). s.count) p.shelf)
-    (ap (λ (s : ShelfState). s.asks) r.shelf ∙ ap (λ (s : ShelfState). s.asks ++ given_ask state ∷ []) p.shelf ∙ append_assoc before.asks (given_ask names.specification ∷ []) (given_ask state ∷ [])
-    ∙ ap (λ (o : Option (List ℕ)). before.asks ++ (given_ask names.specification ∷ map given_ask (option_to_list o))) (sym is_state))
-    specification kept is_text (state_read names specification state plan before mid is_text p.is_plan told_is read kept merge is_state r)
-    (past_read names specification state plan before mid is_text p.is_plan told_is read kept merge is_state r) out trace outcome rows
+    works_rows names plan before read after p.is_plan p.accepted p.one_model (told_by mid read state r.shelf ∙ told_by before mid names.specification p.shelf) (ap (λ (s : ShelfState). s.count) r.shelf ∙ ap (λ (s : ShelfState). s.count) p.shelf)
+    (asked_both names.specification state before mid read p.shelf r.shelf ∙ ap (λ (o : Option (List ℕ)). before.asks ++ (given_ask names.specification ∷ map given_ask (option_to_list o))) (sym is_state))
+    specification kept is_text (state_read names specification state plan before mid is_text p.is_plan p.shelf read kept merge is_state r)
+    (past_read names specification state plan before mid is_text p.is_plan p.shelf read kept merge is_state r) out trace outcome rows
 
 -- no engine goes on from its state
 pub over_unloaded : (specification state : List ℕ) (plan : Plan) (names : SnapshotNames) (mid after : ShelfState) (end : Unloaded) → names.state ≡ Some state → NoEngine end specification plan state mid after
     → WorksOver (without_engine end) specification plan names mid after
 over_unloaded specification state plan names mid after end is_state none before out trace p is_text =
-    works_unloaded names specification state plan before mid is_text p.is_plan (told_by before mid names.specification p.shelf) end after out trace p.shelf is_state none
+    works_unloaded names specification state plan before mid is_text p.is_plan p.shelf end after out trace is_state none

@@ -10,8 +10,8 @@ use Rattle.lola_port.specs.States.{ShelfState}
 use Rattle.lola_model.specs.declared.plan.Plan.{Plan}
 use Rattle.lola_front.specs.Front.{IsCut, IsPlanOf, IsRefusalOf}
 use Rattle.lola_monitor.specs.Outcomes.{IsReadFront, PlansName, PlansText, noted}
-use Rattle.lola_monitor.specs.declared.outcome.Unplanned.{Unplanned}
-use Rattle.lola_monitor.specs.declared.outcome.Unplanned.TheVariants as unplanned
+use Rattle.lola_monitor.specs.declared.call_end.Unplanned.{Unplanned}
+use Rattle.lola_monitor.specs.declared.call_end.Unplanned.TheVariants as unplanned
 
 abbrev too_long : Refusal
 too_long = record { code = TooLong; at = 1048576 }

@@ -16,8 +16,8 @@ use Rattle.lola_monitor.specs.Outcomes.{Grew}
 use Rattle.lola_monitor.specs.Pasts.{IsSavedAs}
 use Rattle.lola_monitor.specs.ResumedOutcomes.{RunRead}
 use Rattle.lola_monitor.specs.Stating.{EngineRead, NoEngine}
-use Rattle.lola_monitor.specs.declared.outcome.Unloaded.{Unloaded}
-use Rattle.lola_monitor.specs.declared.outcome.Unloaded.TheVariants as unloaded
+use Rattle.lola_monitor.specs.declared.call_end.Unloaded.{Unloaded}
+use Rattle.lola_monitor.specs.declared.call_end.Unloaded.TheVariants as unloaded
 use Rattle.lola_monitor.proofs.Calls.{grew_marred, grew_noted}
 
 module _ (specification : List ℕ) (plan : Plan) (show : Show) (name : List ℕ) (e : EngineState) (store : BoundedStore) (before after : ShelfState) (read : EngineRead specification plan show name e store before after) where

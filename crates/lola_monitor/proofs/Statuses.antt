@@ -7,7 +7,7 @@ use Rattle.lola_model.specs.Journal.{rows_of}
 use Rattle.lola_model.specs.declared.journal.Entry.{Entry}
 use Rattle.lola_model.specs.declared.journal.Row.{Row}
 use Rattle.lola_model.specs.declared.plan.Plan.{Plan}
-use Rattle.lola_report_lines.specs.declared.end.EndLine.{EndLine}
+use Rattle.lola_report.specs.declared.end.EndLine.{EndLine}
 use Rattle.lola_monitor_command.specs.Command.{command_of}
 use Rattle.lola_monitor_command.specs.declared.command.DrillCommand.{DrillCommand}
 use Rattle.lola_monitor_run.specs.Verdicts.{Setting}

@@ -8,8 +8,9 @@ use Rattle.lola_model.specs.Journal.{rows_of}
 use Rattle.lola_model.specs.declared.journal.Entry.{Entry}
 use Rattle.lola_model.specs.declared.plan.Plan.{Plan}
 use Rattle.lola_rows.specs.Rows.{SourceEnd}
+use Rattle.lola_monitor.specs.Causes.{AllHome}
 use Rattle.lola_monitor.specs.Monitor.{AllBegin, AllEnd, AllRead, Begins, Ends, GoInTurns, HasRows, WereGiven, asks_between, first_failed_ask}
-use Rattle.lola_monitor.specs.Outcomes.{AllHome, CameHome}
+use Rattle.lola_monitor.specs.Outcomes.{CameHome}
 use Rattle.lola_monitor.proofs.Calls.{between}
 use Rattle.lola_monitor.proofs.FailedAsks.{none_behind_given}
 

@@ -3,7 +3,7 @@ use Rattle.std.proofs.Common.{◌≡◌, ◌⊎◌, ℕ, List, [], ◌∷◌, �
 use Rattle.lola_model.specs.Faults.{RunFault}
 use Rattle.lola_model.specs.Journal.{rows_of}
 use Rattle.lola_model.specs.declared.journal.Entry.{Entry}
-use Rattle.lola_report_lines.specs.declared.end.EndLine.{EndLine}
+use Rattle.lola_report.specs.declared.end.EndLine.{EndLine}
 use Rattle.lola_monitor_command.specs.declared.command.DrillCommand.{DrillCommand}
 use Rattle.lola_feed.specs.Drills.{drill_bytes}
 use Rattle.lola_rows.specs.Columns.{inputs_of}

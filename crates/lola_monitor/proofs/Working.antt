@@ -13,8 +13,8 @@ use Rattle.lola_model.specs.declared.plan.Plan.{Plan}
 use Rattle.lola_model.specs.declared.journal.Entry.{Entry}
 use Rattle.lola_model.specs.declared.journal.Row.{Row}
 use Rattle.lola_rows.specs.Rows.{Whole}
-use Rattle.lola_report_lines.specs.Ends.{end_text}
-use Rattle.lola_report_lines.specs.declared.end.EndLine.TheVariants.{Done, Usage, Refused, Malformed, Fault, UnreadableSpecification, UnreadableSource, Analysed}
+use Rattle.lola_report.specs.Ends.{end_text}
+use Rattle.lola_report.specs.declared.end.EndLine.TheVariants.{Done, Usage, Refused, Malformed, Fault, UnreadableSpecification, UnreadableSource, Analysed}
 use Rattle.lola_monitor_run.specs.Verdicts.{HasFront, IsRowFault, Setting, verdicts}
 use Rattle.lola_monitor_run.specs.Running.{Keeping, setting_in}
 use Rattle.lola_monitor_run.specs.Behind.{HasFrontBehind, IsBehind, IsRowFaultBehind, verdicts_behind}
@@ -22,15 +22,16 @@ use Rattle.lola_monitor_run.proofs.Fronts.{nothing_fails, nothing_final}
 use Rattle.lola_monitor_run.proofs.Sinks.{grown_nil}
 use Rattle.lola_monitor_run.proofs.TextsBehind.{settled_first, verdicts_first}
 use Rattle.lola_monitor_command.specs.declared.command.DrillCommand.{DrillCommand}
+use Rattle.lola_monitor.specs.Causes.{AllHome}
 use Rattle.lola_monitor.specs.Command.{Names, analysed_of, drill_of, run_of, specification_of}
 use Rattle.lola_monitor.specs.Drilling.{DrillsBy}
 use Rattle.lola_monitor.specs.Monitor.{AllBegin, AllGiven, AllRead, Begins, CutsOff, Ends, GoInTurns, HasItsModels, HasRows, IsAtDeadline, IsUnfinished, Outside, Plans, Ran, WereGiven, analysis_text, asks_between, call, fault_line, first_failed_ask, setting_of, source_rows}
-use Rattle.lola_monitor.specs.Outcomes.{AllHome, AreUntouched, ArePut, ArePutBehind, CameHome, IsAtDeadlineBehind, Marred, NotGivenRun, PlansName, ReadPlan, RunsSources, SourcesRun, TakesSources, UnfinishedRun, Works, noted, without_plan}
+use Rattle.lola_monitor.specs.Outcomes.{AreUntouched, ArePut, ArePutBehind, CameHome, IsAtDeadlineBehind, Marred, NotGivenRun, PlansName, ReadPlan, RunsSources, SourcesRun, TakesSources, UnfinishedRun, Works, noted, without_plan}
 use Rattle.lola_monitor.specs.Resumed.{CutsOffBehind}
-use Rattle.lola_monitor.specs.declared.outcome.CallEnd.{CallEnd}
-use Rattle.lola_monitor.specs.declared.outcome.CallEnd.TheVariants.{Line, Drilled, Report, Replayed, Stated, CutFault, Put, Memory}
-use Rattle.lola_monitor.specs.declared.outcome.Unplanned.{Unplanned}
-use Rattle.lola_monitor.specs.declared.outcome.Unplanned.TheVariants as unplanned
+use Rattle.lola_monitor.specs.declared.call_end.CallEnd.{CallEnd}
+use Rattle.lola_monitor.specs.declared.call_end.CallEnd.TheVariants.{Line, Drilled, Report, Replayed, Stated, CutFault, Put, Memory}
+use Rattle.lola_monitor.specs.declared.call_end.Unplanned.{Unplanned}
+use Rattle.lola_monitor.specs.declared.call_end.Unplanned.TheVariants as unplanned
 use Rattle.lola_monitor.proofs.BehindNothing.{cut_at_deadline_first, cut_at_row_first, done_first, has_front_first, row_fault_first}
 use Rattle.lola_monitor.proofs.Calls.{between}
 use Rattle.lola_monitor.proofs.FailedAsks.{given_at}

@@ -13,14 +13,14 @@ use Rattle.lola_monitor_command.specs.declared.command.DrillCommand.{DrillComman
 use Rattle.lola_rows.specs.Reading.{fresh, shape_of}
 use Rattle.lola_rows.specs.Rows.{SourceRows, Whole}
 use Rattle.lola_feed.specs.Feeding.{Working, beginning}
-use Rattle.lola_report_lines.specs.Ends.{end_text}
-use Rattle.lola_report_lines.specs.declared.end.EndLine.{EndLine}
-use Rattle.lola_report_lines.specs.declared.end.EndLine.TheVariants.{Done, Usage, Refused, Malformed, Fault, UnreadableSpecification, UnreadableSource, Analysed}
+use Rattle.lola_report.specs.Ends.{end_text}
+use Rattle.lola_report.specs.declared.end.EndLine.{EndLine}
+use Rattle.lola_report.specs.declared.end.EndLine.TheVariants.{Done, Usage, Refused, Malformed, Fault, UnreadableSpecification, UnreadableSource, Analysed}
 use Rattle.lola_feed.specs.Drills.{drill_bytes, drill_text}
 use Rattle.lola_monitor_run.specs.Verdicts.{AreOfSources, IsRowFault, Setting, fault_in, most_rows, settled_fault_in}
 use Rattle.lola_monitor_run.specs.Rounds.{AreFirst}
-use Rattle.lola_monitor.specs.declared.outcome.CallEnd.{CallEnd}
-use Rattle.lola_monitor.specs.declared.outcome.CallEnd.TheVariants.{Line, Drilled, Report, Replayed, Stated, CutFault, Put, Memory}
+use Rattle.lola_monitor.specs.declared.call_end.CallEnd.{CallEnd}
+use Rattle.lola_monitor.specs.declared.call_end.CallEnd.TheVariants.{Line, Drilled, Report, Replayed, Stated, CutFault, Put, Memory}
 use Rattle.lola_monitor.specs.Command.{drill_of}
 use Rattle.lola_monitor.specs.Monitor.{Call, HasItsModels, IsUntraced, MalformedSource, Wrote, done_line, fault_line, first_malformed, source_rows}
 

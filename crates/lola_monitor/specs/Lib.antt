@@ -8,9 +8,11 @@ pub mod Outcomes
 pub mod ReplayOutcomes
 pub mod Conclusions
 pub mod Pasts
+pub mod Causes
 pub mod Resumed
 pub mod Snapshots
 pub mod Stating
+pub mod Refusals
 pub mod SnapshotOutcomes
 pub mod ResumedOutcomes
 pub mod AnyOutcomes

@@ -20,9 +20,9 @@ use Rattle.lola_bounds.specs.Report.{report_of}
 use Rattle.lola_monitor_command.specs.Command.{command_of}
 use Rattle.lola_rows.specs.Rows.{SourceRows, SourceEnd, Whole, MalformedAt, rows_of_source}
 use Rattle.lola_rows.specs.Columns.{inputs_of}
-use Rattle.lola_report_lines.specs.Ends.{end_text}
-use Rattle.lola_report_lines.specs.declared.end.EndLine.{EndLine}
-use Rattle.lola_report_lines.specs.declared.end.EndLine.TheVariants.{Done, Usage, Refused, Malformed, Fault, UnreadableSpecification, UnreadableSource, Analysed}
+use Rattle.lola_report.specs.Ends.{end_text}
+use Rattle.lola_report.specs.declared.end.EndLine.{EndLine}
+use Rattle.lola_report.specs.declared.end.EndLine.TheVariants.{Done, Usage, Refused, Malformed, Fault, UnreadableSpecification, UnreadableSource, Analysed}
 use Rattle.lola_monitor_run.specs.Verdicts.{AreOfSources, AreTraceable, HasFront, IsCutAtDeadline, IsCutAtRow, IsCutInLine, IsRowFault, Setting, fault_in, late_count, most_rows, settled_fault_in, settled_text, verdicts}
 use Rattle.lola_monitor_run.specs.Rounds.{AreFirst}
 use Rattle.lola_monitor.specs.Command.{Names, analysed_of, names_of, run_of, specification_of}

@@ -13,8 +13,8 @@ use Rattle.lola_model.specs.Acceptance.{IsAccepted}
 use Rattle.lola_front.specs.Front.{IsPlanOf, IsRefusalOf}
 use Rattle.lola_monitor_command.specs.Command.{command_of}
 use Rattle.lola_rows.specs.Rows.{SourceEnd, Whole, MalformedAt}
-use Rattle.lola_report_lines.specs.declared.end.EndLine.{EndLine}
-use Rattle.lola_report_lines.specs.declared.end.EndLine.TheVariants.{Done, Usage, Refused, Malformed, Fault, UnreadableSpecification, UnreadableSource, Analysed}
+use Rattle.lola_report.specs.declared.end.EndLine.{EndLine}
+use Rattle.lola_report.specs.declared.end.EndLine.TheVariants.{Done, Usage, Refused, Malformed, Fault, UnreadableSpecification, UnreadableSource, Analysed}
 use Rattle.lola_feed.specs.Feeding.{Working}
 use Rattle.lola_feed.specs.declared.worker.SourceEnd as worker
 use Rattle.lola_feed.specs.declared.worker.SourceEnd.TheVariants as finish
@@ -25,6 +25,7 @@ use Rattle.lola_monitor_run.specs.declared.stop.Stop.{Stop}
 use Rattle.lola_monitor_run.specs.declared.stop.Stop.TheVariants as stop
 use Rattle.lola_feed.specs.declared.sources.FetchStop.{FetchStop}
 use Rattle.lola_feed.specs.declared.sources.FetchStop.TheVariants as fetch
+use Rattle.lola_monitor.specs.Causes.{AllHome}
 use Rattle.lola_monitor.specs.Command.{specification_of}
 use Rattle.lola_monitor.specs.Drilling.{DrillsTo, OfDrill}
 use Rattle.lola_replay.specs.declared.end.ReplayEnd.{ReplayEnd}
@@ -36,10 +37,10 @@ use Rattle.lola_monitor.specs.Pasts.{done_line_behind}
 use Rattle.lola_monitor.specs.Resumed.{CutsOffBehind}
 use Rattle.lola_monitor.specs.declared.ending.SourcesEnd.{SourcesEnd}
 use Rattle.lola_monitor.specs.declared.ending.SourcesEnd.TheVariants as sources_end
-use Rattle.lola_monitor.specs.declared.outcome.CallEnd.{CallEnd}
-use Rattle.lola_monitor.specs.declared.outcome.CallEnd.TheVariants.{Line, Drilled, Report, Replayed, Stated, CutFault, Put, Memory}
-use Rattle.lola_monitor.specs.declared.outcome.Unplanned.{Unplanned}
-use Rattle.lola_monitor.specs.declared.outcome.Unplanned.TheVariants as unplanned
+use Rattle.lola_monitor.specs.declared.call_end.CallEnd.{CallEnd}
+use Rattle.lola_monitor.specs.declared.call_end.CallEnd.TheVariants.{Line, Drilled, Report, Replayed, Stated, CutFault, Put, Memory}
+use Rattle.lola_monitor.specs.declared.call_end.Unplanned.{Unplanned}
+use Rattle.lola_monitor.specs.declared.call_end.Unplanned.TheVariants as unplanned
 
 -- what was read of all bytes: all of them, or more than so many
 abbrev pub IsReadFront : ℕ → List ℕ → List ℕ → Type 0
@@ -77,12 +78,6 @@ pub record Grew (names : List (List ℕ)) (before after : ShelfState) : Type 0 w
   pub appended : after.asks ≡ before.asks ++ asks
   pub front : IsFrontOf (map (λ ask. ask.name) asks) names
   pub home : after.out ≡ before.out
-
--- all names were given and all sources are back, none of which has failed
-pub record AllHome (names : List (List ℕ)) (before after : ShelfState) : Type 0 where
-  pub asks : after.asks ≡ before.asks ++ map given_ask names
-  pub count : after.count ≡ before.count
-  pub out : after.out ≡ before.out
 
 -- all names were given and all sources are back, of which some may have failed: these are their asks
 pub record CameHome (names : List (List ℕ)) (asks : List Ask) (before after : ShelfState) : Type 0 where

@@ -13,13 +13,13 @@ use Rattle.lola_model.specs.declared.journal.Entry.{Entry}
 use Rattle.lola_model.specs.declared.journal.Show.{Show}
 use Rattle.lola_front.specs.Front.{IsPlanOf, IsRefusalOf}
 use Rattle.lola_rows.specs.Rows.{SourceEnd, Whole}
-use Rattle.lola_report_lines.specs.Ends.{end_text}
-use Rattle.lola_report_lines.specs.declared.end.EndLine.{EndLine}
-use Rattle.lola_report_lines.specs.declared.end.EndLine.TheVariants.{Done, Malformed, Refused, UnreadableSpecification}
+use Rattle.lola_report.specs.Ends.{end_text}
+use Rattle.lola_report.specs.declared.end.EndLine.{EndLine}
+use Rattle.lola_report.specs.declared.end.EndLine.TheVariants.{Done, Malformed, Refused, UnreadableSpecification}
 use Rattle.lola_save.specs.StateEnds.{IsRefusedState, state_end_text}
 use Rattle.lola_save.specs.declared.end.StateEnd.{StateEnd}
 use Rattle.lola_save.specs.declared.end.StateEnd.TheVariants as state_end
-use Rattle.lola_save_law.specs.JournalStates.{IsJournalOf, state_of}
+use Rattle.lola_save_text.specs.JournalStates.{IsJournalOf, state_of}
 use Rattle.lola_save_text.specs.Damage.{IsStateText}
 use Rattle.lola_save_text.specs.Lines.{state_text}
 use Rattle.lola_monitor_run.specs.Verdicts.{AreOfSources, AreTraceable, Setting, late_count}

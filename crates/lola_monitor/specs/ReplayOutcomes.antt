@@ -8,8 +8,8 @@ use Rattle.lola_replay.specs.declared.finding.Finding.{Finding}
 use Rattle.lola_monitor.specs.Command.{ReplayNames}
 use Rattle.lola_monitor.specs.Outcomes.{Grew, Marred, noted}
 use Rattle.lola_monitor.specs.Replaying.{IsText, told_by}
-use Rattle.lola_monitor.specs.declared.outcome.CallEnd.{CallEnd}
-use Rattle.lola_monitor.specs.declared.outcome.CallEnd.TheVariants.{Line, Drilled, Report, Replayed, Stated, CutFault, Put, Memory}
+use Rattle.lola_monitor.specs.declared.call_end.CallEnd.{CallEnd}
+use Rattle.lola_monitor.specs.declared.call_end.CallEnd.TheVariants.{Line, Drilled, Report, Replayed, Stated, CutFault, Put, Memory}
 
 -- both were read whole, one after the other, and this was found of them
 pub record FoundTexts (finding : Finding) (plan : Plan) (names : ReplayNames) (before after : ShelfState) : Type 0 where

@@ -7,11 +7,12 @@ use Rattle.lola_model.specs.Faults.{RunFault}
 use Rattle.lola_model.specs.Trace.{trace_text}
 use Rattle.lola_model.specs.declared.journal.Entry.{Entry}
 use Rattle.lola_model.specs.declared.plan.Plan.{Plan}
-use Rattle.lola_report_lines.specs.Ends.{end_text}
-use Rattle.lola_report_lines.specs.declared.end.EndLine.TheVariants.{UnreadableSource}
+use Rattle.lola_report.specs.Ends.{end_text}
+use Rattle.lola_report.specs.declared.end.EndLine.TheVariants.{UnreadableSource}
 use Rattle.lola_monitor_run.specs.Behind.{HasFrontBehind, IsCutAtDeadlineBehind, IsCutAtRowBehind, IsRowFaultBehind, settled_behind, verdicts_behind}
 use Rattle.lola_monitor_run.specs.Verdicts.{IsCutInLine, Setting, fault_in, settled_fault_in}
 use Rattle.lola_port.specs.declared.traits.Ask.{Ask}
+use Rattle.lola_monitor.specs.Causes.{HasCause}
 use Rattle.lola_monitor.specs.Command.{Resumption}
 use Rattle.lola_monitor.specs.Monitor.{AllRead, AreGiven, AreTraced, Call, IsEarly, IsUntraced, MalformedSource, Outside, WereGiven, Wrote, asks_between, fault_line, first_failed_ask}
 use Rattle.lola_monitor.specs.Pasts.{AreAllRows, AreRowsBeforeMalformed, AreRowsOfOthers, AreWellTold, Inputs, IsBadState, IsFrontIn, IsReadable, IsRefusedNamed, IsSpoiledNamed, IsStateRefused, IsUnreadNamed, RanBehind, done_line_behind, malformed_line, setting_behind, texts_of}
@@ -158,6 +159,7 @@ pub record EndedResumed (status : ℕ) (names : Resumption) (c : Call) : Type 0 
   pub broken : status ≡ 7 → Behind IsBrokenBehind names c
   pub memory : status ≡ 8 → IsEarly c ⊎ Behind IsUnfinishedBehind names c
   pub state : status ≡ 9 → IsStateRefused names.specification names.state c
+  pub cause : HasCause status (inputs_of names) c
   pub others : (status ≡ 0) ⊎ ((3 ≤ status) × (status ≤ 9))
 
 -- such a run over a state of a journal, of sources that end well, whose rows, those that the trace received, have no fault behind it, and

@@ -1,33 +1,32 @@
 -- What a run leaves that goes on from a state, before its last line.
-use Rattle.std.specs.Prelude.{◌≡◌, ◌⊎◌, ℕ, List, [], ◌∷◌, ◌++◌, Option, None, Some, false, map, slice_get}
+use Rattle.std.specs.Prelude.{◌≡◌, ◌⊎◌, ℕ, List, ◌++◌, Option, None, Some, false, map, slice_get}
 use Rattle.lola_port.specs.Asks.{given_ask}
 use Rattle.lola_port.specs.States.{PutBroke, Rose, ShelfState, grown}
 use Rattle.lola_port.specs.declared.traits.Ask.{Ask}
-use Rattle.lola_value.specs.declared.front.Refusal.{Refusal}
 use Rattle.lola_model.specs.Faults.{RunFault}
 use Rattle.lola_model.specs.Journal.{accepted, known_start, opening_time}
 use Rattle.lola_model.specs.Trace.{trace_text}
 use Rattle.lola_model.specs.declared.journal.Entry.{Entry}
 use Rattle.lola_model.specs.declared.journal.Show.{Show}
 use Rattle.lola_model.specs.declared.plan.Plan.{Plan}
-use Rattle.lola_report_lines.specs.declared.end.EndLine.{EndLine}
-use Rattle.lola_report_lines.specs.declared.end.EndLine.TheVariants.{Done, Usage, Refused, Malformed, Fault, UnreadableSpecification, UnreadableSource, Analysed}
-use Rattle.lola_save.specs.declared.end.StateEnd.{StateEnd}
+use Rattle.lola_report.specs.declared.end.EndLine.{EndLine}
+use Rattle.lola_report.specs.declared.end.EndLine.TheVariants.{Done, Usage, Refused, Malformed, Fault, UnreadableSpecification, UnreadableSource, Analysed}
 use Rattle.lola_save.specs.declared.end.StateEnd.TheVariants as state_end
 use Rattle.lola_save_text.specs.Damage.{IsStateText}
 use Rattle.lola_monitor_run.specs.Behind.{HasFrontBehind, HasTakenNone, IsBehind, IsRowFaultBehind, verdicts_behind}
 use Rattle.lola_monitor_run.specs.Running.{Keeping}
 use Rattle.lola_monitor_run.specs.Verdicts.{fault_in}
 use Rattle.lola_monitor.specs.Command.{Resumption}
-use Rattle.lola_monitor.specs.Monitor.{IsRefusedBy, MalformedSource, Outside, Plans, WereGiven, asks_between, fault_line, first_failed_ask}
+use Rattle.lola_monitor.specs.Monitor.{MalformedSource, Outside, Plans, WereGiven, asks_between, fault_line, first_failed_ask}
 use Rattle.lola_monitor.specs.Outcomes.{ArePutBehind, AreUntouched, IsAtDeadlineBehind, noted}
-use Rattle.lola_monitor.specs.Pasts.{AreAllRows, AreRowsBeforeMalformed, AreRowsOfOthers, IsFrontIn, IsRefusedStateOf, IsSavedAs, RanBehind, done_line_behind, malformed_line, texts_of}
+use Rattle.lola_monitor.specs.Pasts.{AreAllRows, AreRowsBeforeMalformed, AreRowsOfOthers, IsFrontIn, IsSavedAs, RanBehind, done_line_behind, malformed_line, texts_of}
+use Rattle.lola_monitor.specs.Refusals.{StoodRefused, StoodStateRefused, StoodUnread}
 use Rattle.lola_monitor.specs.Replaying.{IsText}
 use Rattle.lola_monitor.specs.Resumed.{CutsOffBehind, inputs_of, setting_of_resumed}
-use Rattle.lola_monitor.specs.declared.outcome.CallEnd.{CallEnd}
-use Rattle.lola_monitor.specs.declared.outcome.CallEnd.TheVariants.{Line, Drilled, Report, Replayed, Stated, CutFault, Put, Memory}
-use Rattle.lola_monitor.specs.declared.outcome.Unloaded.{Unloaded}
-use Rattle.lola_monitor.specs.declared.outcome.Unloaded.TheVariants as unloaded
+use Rattle.lola_monitor.specs.declared.call_end.CallEnd.{CallEnd}
+use Rattle.lola_monitor.specs.declared.call_end.CallEnd.TheVariants.{Line, Drilled, Report, Replayed, Stated, CutFault, Put, Memory}
+use Rattle.lola_monitor.specs.declared.call_end.Unloaded.{Unloaded}
+use Rattle.lola_monitor.specs.declared.call_end.Unloaded.TheVariants as unloaded
 
 -- how a call ends without an engine
 abbrev pub without_engine : Unloaded → CallEnd
@@ -132,28 +131,6 @@ pub record StoodNotGiven (line : EndLine) (names : Resumption) (before after : O
   pub early : AreUntouched before after
   pub line_is : line ≡ UnreadableSource at
 
--- all but the last line: the specification is refused
-pub record StoodRefused (r : Refusal) (name : List ℕ) (before after : Outside) : Type 0 where
-  pub cause : IsRefusedBy (before.shelf.told name) r
-  pub asks : asks_between before.shelf after.shelf ≡ given_ask name ∷ []
-  pub count : after.shelf.count ≡ before.shelf.count
-  pub early : AreUntouched before after
-
--- all but the last line: of the texts that are asked for first the one at this place was not read
-pub record StoodUnread (place : ℕ) (before after : Outside) : Type 0 where
-  pub has_failed : first_failed_ask (asks_between before.shelf after.shelf) ≡ Some place
-  pub rose : Rose before.shelf.count after.shelf.count
-  pub early : AreUntouched before after
-
--- all but the last line: the state is refused
-pub record StoodStateRefused (end : StateEnd) (names : Resumption) (before after : Outside) : Type 0 where
-  pub plan : Plan
-  pub is_plan : Plans (before.shelf.told names.specification) plan
-  pub cause : IsRefusedStateOf (before.shelf.told names.specification) plan (before.shelf.told names.state) end
-  pub asks : asks_between before.shelf after.shelf ≡ given_ask names.specification ∷ given_ask names.state ∷ []
-  pub count : after.shelf.count ≡ before.shelf.count
-  pub early : AreUntouched before after
-
 -- all but the last line of a run that goes on from a state
 abbrev pub WorksResumed : CallEnd → Resumption → Outside → Outside → Type 0
 WorksResumed (Line (Done a l s v)) names before after = GoesOn (λ start front. StoodDone names start front before after (Done a l s v)) names before.shelf
@@ -169,8 +146,8 @@ WorksResumed (Drilled line) names before after = ⊥
 WorksResumed (Report text) names before after = ⊥
 WorksResumed (Replayed end) names before after = ⊥
 WorksResumed (Stated state_end.Unreadable) names before after = StoodUnread 1 before after
-WorksResumed (Stated (state_end.Damaged line)) names before after = StoodStateRefused (state_end.Damaged line) names before after
-WorksResumed (Stated state_end.OtherSpecification) names before after = StoodStateRefused state_end.OtherSpecification names before after
+WorksResumed (Stated (state_end.Damaged line)) names before after = StoodStateRefused (state_end.Damaged line) names.specification names.state before after
+WorksResumed (Stated state_end.OtherSpecification) names before after = StoodStateRefused state_end.OtherSpecification names.specification names.state before after
 WorksResumed (Stated state_end.TooManySteps) names before after = ⊥
 WorksResumed CutFault names before after = GoesOn (λ start front. StoodCutFault names start front before after) names before.shelf
 WorksResumed Put names before after = GoesOn (λ start front. StoodCutOff names start front before after) names before.shelf

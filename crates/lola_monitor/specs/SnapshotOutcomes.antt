@@ -1,20 +1,18 @@
 -- What the parts of a snapshot leave, before its last line.
-use Rattle.std.specs.Prelude.{◌≡◌, ◌⊎◌, ℕ, ◌<◌, ◌≤◌, true, false, List, [], ◌∷◌, ◌++◌, length, map, slice_get, Option, None, Some, Result, Ok, Err}
-use Rattle.lola_port.specs.Asks.{given_ask}
+use Rattle.std.specs.Prelude.{◌≡◌, ◌⊎◌, ℕ, ◌<◌, ◌≤◌, true, false, List, [], ◌++◌, length, map, slice_get, Option, None, Some, Result, Ok, Err}
 use Rattle.lola_port.specs.States.{Rose, ShelfState, SinkState}
 use Rattle.lola_port.specs.declared.traits.Ask.{Ask}
-use Rattle.lola_value.specs.declared.front.Refusal.{Refusal}
 use Rattle.lola_model.specs.Faults.{RunFault}
 use Rattle.lola_model.specs.Journal.{accepted, known_start, rows_of}
 use Rattle.lola_model.specs.Runs.{settled_model}
 use Rattle.lola_model.specs.declared.journal.Entry.{Entry}
 use Rattle.lola_model.specs.declared.plan.Plan.{Plan}
 use Rattle.lola_rows.specs.Rows.{SourceEnd, Whole}
-use Rattle.lola_report_lines.specs.declared.end.EndLine.{EndLine}
-use Rattle.lola_report_lines.specs.declared.end.EndLine.TheVariants.{Done, Usage, Refused, Malformed, Fault, UnreadableSpecification, UnreadableSource, Analysed}
+use Rattle.lola_report.specs.declared.end.EndLine.{EndLine}
+use Rattle.lola_report.specs.declared.end.EndLine.TheVariants.{Done, Usage, Refused, Malformed, Fault, UnreadableSpecification, UnreadableSource, Analysed}
 use Rattle.lola_save.specs.declared.end.StateEnd.{StateEnd}
 use Rattle.lola_save.specs.declared.end.StateEnd.TheVariants as state_end
-use Rattle.lola_save_law.specs.JournalStates.{state_of}
+use Rattle.lola_save_text.specs.JournalStates.{state_of}
 use Rattle.lola_save_text.specs.Damage.{IsStateText}
 use Rattle.lola_save_text.specs.Fitting.{most_steps}
 use Rattle.lola_save_text.specs.Lines.{state_text}
@@ -23,16 +21,18 @@ use Rattle.lola_monitor_run.specs.Running.{Keeping, setting_in}
 use Rattle.lola_monitor_run.specs.Verdicts.{Setting, settled_fault_in}
 use Rattle.lola_monitor_run.specs.declared.stop.Stop.{Stop}
 use Rattle.lola_monitor_run.specs.declared.stop.Stop.TheVariants as stop
+use Rattle.lola_monitor.specs.Causes.{AllHome, Causes, SourcesMalformed, SourcesUnread, SourcesWell}
 use Rattle.lola_monitor.specs.Command.{SnapshotNames}
-use Rattle.lola_monitor.specs.Monitor.{AllEnd, AllRead, AreGiven, Ends, IsRefusedBy, MalformedSource, Outside, Plans, WereGiven, asks_between, fault_line, first_failed_ask, first_malformed, outside}
-use Rattle.lola_monitor.specs.Outcomes.{AllHome, AreUntouched, CameHome, Grew, OutcomeAfter, ReadPlan, SourcesRun}
-use Rattle.lola_monitor.specs.Pasts.{AreAllRows, AreRowsBeforeMalformed, AreRowsOfOthers, IsFrontIn, IsRefusedStateOf, RanBehind, malformed_line}
+use Rattle.lola_monitor.specs.Monitor.{AllEnd, AllRead, AreGiven, Ends, MalformedSource, Outside, Plans, WereGiven, fault_line, first_failed_ask, first_malformed, outside}
+use Rattle.lola_monitor.specs.Outcomes.{AreUntouched, CameHome, Grew, OutcomeAfter, ReadPlan, SourcesRun}
+use Rattle.lola_monitor.specs.Pasts.{AreAllRows, AreRowsBeforeMalformed, AreRowsOfOthers, RanBehind, malformed_line}
+use Rattle.lola_monitor.specs.Refusals.{StoodRefused, StoodStateRefused, StoodUnread}
 use Rattle.lola_monitor.specs.Replaying.{IsText}
 use Rattle.lola_monitor.specs.Snapshots.{IsPast, inputs_of, saved_text, steps_setting}
 use Rattle.lola_monitor.specs.declared.ending.SourcesEnd.{SourcesEnd}
 use Rattle.lola_monitor.specs.declared.ending.SourcesEnd.TheVariants as sources_end
-use Rattle.lola_monitor.specs.declared.outcome.CallEnd.{CallEnd}
-use Rattle.lola_monitor.specs.declared.outcome.CallEnd.TheVariants.{Line, Drilled, Report, Replayed, Stated, CutFault, Put, Memory}
+use Rattle.lola_monitor.specs.declared.call_end.CallEnd.{CallEnd}
+use Rattle.lola_monitor.specs.declared.call_end.CallEnd.TheVariants.{Line, Drilled, Report, Replayed, Stated, CutFault, Put, Memory}
 
 -- ---- the rows of sources
 
@@ -192,6 +192,17 @@ pub record TookRows (stopped : Result (Unit {0}) Stop) (end : SourcesEnd) (old n
   pub asked : Grew names before after
   pub behind : (front : List Entry) → IsBehind front front old → StopsRows stopped end front (setting_in old) new names before after
 
+-- why they ended so, also where the run stood for no journal
+abbrev pub RowsCause : Result (Unit {0}) Stop → SourcesEnd → Plan → List (List ℕ) → ShelfState → ShelfState → Type 0
+RowsCause (Ok done) sources_end.Whole plan names before after = SourcesWell plan names (outside before nowhere nowhere) (outside after nowhere nowhere)
+RowsCause (Ok done) (sources_end.ReadFailed at) plan names before after = SourcesUnread (UnreadableSource at) (outside before nowhere nowhere) (outside after nowhere nowhere)
+RowsCause (Ok done) (sources_end.Malformed source row kind) plan names before after =
+    SourcesMalformed (Malformed source row kind) plan names (outside before nowhere nowhere) (outside after nowhere nowhere)
+RowsCause (Err (stop.Fault stream kind time)) end plan names before after = Unit {0}
+RowsCause (Err (stop.CutFault stream kind time)) end plan names before after = ⊥
+RowsCause (Err stop.Put) end plan names before after = ⊥
+RowsCause (Err stop.Memory) end plan names before after = Unit {0}
+
 -- ---- the whole snapshot
 
 -- a state that it goes on from is one of the plan
@@ -258,32 +269,10 @@ pub record StoodSnapshot (P : Option ℕ → List Entry → ShelfState → Shelf
 abbrev pub NoPast : Option ℕ → List Entry → ShelfState → ShelfState → Type 0
 NoPast start front before after = ⊥
 
--- the specification is refused
-pub record RefusedSnapshot (r : Refusal) (names : SnapshotNames) (before after : Outside) : Type 0 where
-  pub cause : IsRefusedBy (before.shelf.told names.specification) r
-  pub asks : asks_between before.shelf after.shelf ≡ given_ask names.specification ∷ []
-  pub count : after.shelf.count ≡ before.shelf.count
-  pub early : AreUntouched before after
-
--- the text that is asked for at this place was not read
-pub record UnreadSnapshot (place : ℕ) (before after : Outside) : Type 0 where
-  pub has_failed : first_failed_ask (asks_between before.shelf after.shelf) ≡ Some place
-  pub rose : Rose before.shelf.count after.shelf.count
-  pub early : AreUntouched before after
-
--- the state was read and is refused, and so is that of no journal
-pub record StoodRefused (end : StateEnd) (specification state : List ℕ) (before after : Outside) : Type 0 where
-  pub plan : Plan
-  pub is_plan : Plans (before.shelf.told specification) plan
-  pub cause : IsRefusedStateOf (before.shelf.told specification) plan (before.shelf.told state) end
-  pub none : (start : Option ℕ) (front : List Entry) → IsFrontIn before.shelf specification state start front → ⊥
-  pub asks : asks_between before.shelf after.shelf ≡ given_ask specification ∷ given_ask state ∷ []
-  pub count : after.shelf.count ≡ before.shelf.count
-  pub early : AreUntouched before after
-
+-- a state that it goes on from is refused
 abbrev pub RefusesState : StateEnd → List ℕ → Option (List ℕ) → Outside → Outside → Type 0
 RefusesState end specification None before after = ⊥
-RefusesState end specification (Some state) before after = StoodRefused end specification state before after
+RefusesState end specification (Some state) before after = StoodStateRefused end specification state before after
 
 -- all but what is put at the end
 abbrev pub WorksSnapshot : CallEnd → SnapshotNames → Outside → Outside → Type 0
@@ -292,13 +281,13 @@ WorksSnapshot (Line (Malformed n row kind)) names before after = StoodSnapshot (
 WorksSnapshot (Line (Fault stream kind time)) names before after = StoodSnapshot (HasRowFault (Fault stream kind time) names) names before after
 WorksSnapshot (Line (UnreadableSource n)) names before after = StoodSnapshot (IsShort (UnreadableSource n) names) names before after
 WorksSnapshot (Line Usage) names before after = ⊥
-WorksSnapshot (Line (Refused r)) names before after = RefusedSnapshot r names before after
-WorksSnapshot (Line UnreadableSpecification) names before after = UnreadSnapshot 0 before after
+WorksSnapshot (Line (Refused r)) names before after = StoodRefused r names.specification before after
+WorksSnapshot (Line UnreadableSpecification) names before after = StoodUnread 0 before after
 WorksSnapshot (Line (Analysed n w)) names before after = ⊥
 WorksSnapshot (Drilled line) names before after = ⊥
 WorksSnapshot (Report text) names before after = StoodSnapshot (SavesRows text names) names before after
 WorksSnapshot (Replayed end) names before after = ⊥
-WorksSnapshot (Stated state_end.Unreadable) names before after = UnreadSnapshot 1 before after
+WorksSnapshot (Stated state_end.Unreadable) names before after = StoodUnread 1 before after
 WorksSnapshot (Stated (state_end.Damaged line)) names before after = RefusesState (state_end.Damaged line) names.specification names.state before after
 WorksSnapshot (Stated state_end.OtherSpecification) names before after = RefusesState state_end.OtherSpecification names.specification names.state before after
 WorksSnapshot (Stated state_end.TooManySteps) names before after = StoodSnapshot (AreTooLong names) names before after
@@ -311,3 +300,9 @@ abbrev pub WorksOver : CallEnd → List ℕ → Plan → SnapshotNames → Shelf
 WorksOver outcome specification plan names mid after =
     (before : ShelfState) (out trace : SinkState) → ReadPlan plan names.specification before mid → IsText (before.told names.specification) specification
     → WorksSnapshot outcome names (outside before out trace) (outside after out trace)
+
+-- and why
+abbrev pub CausesOver : CallEnd → List ℕ → Plan → SnapshotNames → ShelfState → ShelfState → Type 0
+CausesOver outcome specification plan names mid after =
+    (before : ShelfState) (out trace : SinkState) → ReadPlan plan names.specification before mid → IsText (before.told names.specification) specification
+    → Causes outcome (inputs_of names) (outside before out trace) (outside after out trace)

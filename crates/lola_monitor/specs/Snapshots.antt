@@ -7,15 +7,16 @@ use Rattle.lola_model.specs.Runs.{settled_model}
 use Rattle.lola_model.specs.declared.journal.Entry.{Entry}
 use Rattle.lola_model.specs.declared.journal.Show.TheVariants as show
 use Rattle.lola_model.specs.declared.plan.Plan.{Plan}
-use Rattle.lola_report_lines.specs.Ends.{end_text}
-use Rattle.lola_report_lines.specs.declared.end.EndLine.TheVariants.{UnreadableSource}
+use Rattle.lola_report.specs.Ends.{end_text}
+use Rattle.lola_report.specs.declared.end.EndLine.TheVariants.{UnreadableSource}
 use Rattle.lola_save.specs.StateEnds.{state_end_text}
 use Rattle.lola_save.specs.declared.end.StateEnd.TheVariants as state_end
-use Rattle.lola_save_law.specs.JournalStates.{state_of}
+use Rattle.lola_save_text.specs.JournalStates.{state_of}
 use Rattle.lola_save_text.specs.Fitting.{most_steps}
 use Rattle.lola_save_text.specs.Lines.{state_text}
 use Rattle.lola_monitor_run.specs.Behind.{IsRowFaultBehind}
 use Rattle.lola_monitor_run.specs.Verdicts.{Setting, settled_fault_in}
+use Rattle.lola_monitor.specs.Causes.{HasCause}
 use Rattle.lola_monitor.specs.Command.{SnapshotNames}
 use Rattle.lola_monitor.specs.Monitor.{Call, IsEarly, IsUntraced, MalformedSource, WereGiven, Wrote, fault_line}
 use Rattle.lola_monitor.specs.Pasts.{AreAllRows, AreRowsBeforeMalformed, AreRowsOfOthers, AreWellTold, Inputs, IsBadState, IsFrontIn, IsReadable, IsRefusedNamed, IsSpoiledNamed, IsStateRefused, IsUnreadNamed, RanBehind, malformed_line, setting_behind}
@@ -122,6 +123,7 @@ pub record EndedSnapshot (status : ℕ) (names : SnapshotNames) (c : Call) : Typ
   pub broken : status ≡ 7 → Behind IsBrokenSnapshot names c
   pub memory : status ≡ 8 → IsEarly c
   pub state : status ≡ 9 → IsStateRefusedIn names names.state c ⊎ Behind HasTooManySteps names c
+  pub cause : HasCause status (inputs_of names) c
   pub others : (status ≡ 0) ⊎ ((3 ≤ status) × (status ≤ 9))
 
 -- a snapshot behind a journal, of sources that end well, whose rows have no fault behind it, and whose objects have not failed

@@ -16,8 +16,8 @@ use Rattle.lola_save_read.specs.declared.read.ReadEnd.TheVariants as read_end
 use Rattle.lola_monitor.specs.Outcomes.{Grew, Marred, noted}
 use Rattle.lola_monitor.specs.Pasts.{IsSavedAs}
 use Rattle.lola_monitor.specs.Replaying.{IsText}
-use Rattle.lola_monitor.specs.declared.outcome.Unloaded.{Unloaded}
-use Rattle.lola_monitor.specs.declared.outcome.Unloaded.TheVariants as unloaded
+use Rattle.lola_monitor.specs.declared.call_end.Unloaded.{Unloaded}
+use Rattle.lola_monitor.specs.declared.call_end.Unloaded.TheVariants as unloaded
 
 -- whatever journal it was whose state's text these bytes are, an engine counts time from where that does, with which it is legal too
 abbrev pub HasStartOf : List ℕ → Plan → List ℕ → EngineState → Type 0

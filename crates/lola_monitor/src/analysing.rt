@@ -5,7 +5,7 @@ ghost use Rattle.lola_monitor.specs.Monitor.{analysis_text};
 
 use lola_bounds::report::report;
 use lola_model::plan::Plan;
-use lola_report_lines::end::{EndLine, end_line};
+use lola_report::end::{EndLine, end_line};
 use lola_value::text::{Memory, Text};
 use std::alloc::Global;
 

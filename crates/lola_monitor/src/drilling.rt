@@ -3,23 +3,24 @@ ghost use Rattle.std.specs.Prelude.{◌≡◌, ◌<◌, ◌≤◌, [], All, IfOk
 ghost use Rattle.lola_feed.specs.Drills.{drill_text};
 ghost use Rattle.lola_front.specs.Front.{IsPlanOf};
 ghost use Rattle.lola_model.specs.Acceptance.{IsAccepted};
-ghost use Rattle.lola_monitor_run.specs.Running.{Stands, keeping, setting_in};
+ghost use Rattle.lola_monitor_run.specs.Behind.{HasTakenNone, IsBehind};
+ghost use Rattle.lola_monitor_run.specs.Running.{keeping, setting_in};
 ghost use Rattle.lola_monitor.specs.Drilling.{AreDrillWorkers, DrillsBy, IsDrillWorker, drill_setting};
 ghost use Rattle.lola_monitor.specs.Monitor.{HasItsModels};
 
-use crate::ending::{end_of, outcome_after};
+use crate::call_end::{CallEnd, Unplanned};
+use crate::ending::{call_end_after, end_of};
 use crate::nowhere::Nowhere;
-use crate::outcome::{CallEnd, Unplanned};
 use crate::planning::plan_of;
 use lola_feed::worker::SourceWorker;
 use lola_feed::{Drill, specification};
 use lola_model::journal::Show;
 use lola_model::plan::Plan;
 use lola_monitor_command::command::DrillCommand;
-use lola_monitor_run::rows::{MOST_ROWS, run_in_turns};
+use lola_monitor_run::rows::{MOST_ROWS, resume_in_turns};
 use lola_monitor_run::run::Run;
 use lola_port::Gate;
-use lola_report_lines::end::EndLine;
+use lola_report::end::EndLine;
 use lola_rows::RowReader;
 use lola_value::text::Memory;
 use std::alloc::Global;
@@ -67,7 +68,8 @@ fn drill_room(
     requires accepted { IsAccepted plan }
     requires number { command.now.number < 2147483647 }
     requires workers { (1 ≤ command.now.workers) × (command.now.workers ≤ 64) }
-    ensures run { IfOk result (λ room. Stands [] (keeping room.0)) }
+    ensures none { IfOk result (λ room. HasTakenNone (keeping room.0)) }
+    ensures run { IfOk result (λ room. IsBehind [] [] (keeping room.0)) }
     ensures setting { IfOk result (λ room. setting_in (keeping room.0) ≡ drill_setting plan) }
     ensures workers { IfOk result (λ room. AreDrillWorkers plan command.now room.1.items) }
 {
@@ -96,19 +98,20 @@ fn run_workers<R: Threads + Sync, G: Gate + Sync>(
     gate: &G,
 ) -> CallEnd
     requires accepted { IsAccepted (keeping run.old).state.plan }
-    requires stands { Stands [] (keeping run.old) }
+    requires none { HasTakenNone (keeping run.old) }
+    requires behind { IsBehind [] [] (keeping run.old) }
     requires setting { setting_in (keeping run.old) ≡ drill_setting (keeping run.old).state.plan }
     requires workers { AreDrillWorkers (keeping run.old).state.plan _command.now workers.items }
     ensures { IsPlanOf drill_text (keeping run.old).state.plan → HasItsModels (keeping run.old).state.plan → DrillsBy result _command.now }
 {
     let mut out = Nowhere;
     let mut trace = Nowhere;
-    let (workers, stopped) = run_in_turns(
+    let (workers, stopped) = resume_in_turns(
         rt, alloc, run, workers, None, &mut out, &mut trace, gate,
     );
     let end = end_of(workers.as_slice());
     let_go(workers);
-    match outcome_after(alloc, run, stopped, end) {
+    match call_end_after(alloc, run, stopped, end) {
         CallEnd::Line(line) => CallEnd::Drilled(line),
         _ => CallEnd::Memory,
     }

@@ -4,14 +4,14 @@ ghost use Rattle.lola_monitor_run.specs.Running.{keeping};
 ghost use Rattle.lola_monitor.specs.Monitor.{fault_line as fault_line_of, first_malformed};
 ghost use Rattle.lola_monitor.specs.Outcomes.{OutcomeAfter, end_of as end_of_all, ends_of, first_failed, is_failed_read as is_failed_read_of, line_of, malformed_at as malformed_at_of, malformed_by, source_end};
 
-use crate::outcome::CallEnd;
+use crate::call_end::CallEnd;
 use lola_feed::worker::{SourceEnd, SourceWorker};
 use lola_model::plan::Plan;
 use lola_model::source::MalformedKind;
 use lola_monitor_run::run::Run;
 use lola_monitor_run::stop::Stop;
 use lola_port::Source;
-use lola_report_lines::end::EndLine;
+use lola_report::end::EndLine;
 use lola_value::text::{Memory, Text};
 use lola_value::value::FaultKind;
 use std::alloc::Global;
@@ -125,7 +125,7 @@ fn last_line(run: &Run, end: SourcesEnd) -> EndLine
 }
 
 /// What a call ends with after a run. What stopped the run comes before how its sources ended.
-pub fn outcome_after(
+pub fn call_end_after(
     alloc: Global,
     run: &Run,
     stopped: Result<(), Stop>,

@@ -6,12 +6,12 @@
 #![tactic(auto)]
 
 mod analysing;
+mod call_end;
 mod drilling;
 mod ending;
 pub mod law;
 mod monitor;
 mod nowhere;
-mod outcome;
 mod planning;
 mod putting;
 mod reading;

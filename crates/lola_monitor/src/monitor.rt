@@ -1,6 +1,7 @@
 //! The top call.
 ghost use Rattle.std.specs.Prelude.{◌≡◌, None, Some, map, string_bytes};
 ghost use Rattle.lola_port.specs.States.{SinkState};
+ghost use Rattle.lola_monitor_command.specs.Bounds.{IsRunInBounds};
 ghost use Rattle.lola_monitor_command.specs.Command.{command_of};
 ghost use Rattle.lola_monitor.specs.Command.{IsWithoutState, Resumption, SnapshotNames, names_asked, resumption_of, snapshot_of};
 ghost use Rattle.lola_monitor.specs.Monitor.{Asked, call, outside};
@@ -11,8 +12,8 @@ ghost use Rattle.lola_monitor.specs.Resumed.{DecidedResumed, EndedResumed};
 ghost use Rattle.lola_monitor.specs.Snapshots.{DecidedSnapshot, EndedSnapshot};
 
 use crate::analysing::analysis;
+use crate::call_end::CallEnd;
 use crate::drilling::drill;
-use crate::outcome::CallEnd;
 use crate::planning::{read_plan, without_plan};
 use crate::putting::conclude;
 use crate::replaying::replay_texts;
@@ -24,7 +25,7 @@ use lola_monitor_run::run::Run;
 use lola_monitor_run::run_law::puts_add_up;
 use lola_port::{Gate, Shelf, Sink};
 use lola_replay::law::one_finding;
-use lola_report_lines::end::EndLine;
+use lola_report::end::EndLine;
 use lola_value::words::word_at;
 use std::alloc::Global;
 use std::hash::RandomState;
@@ -45,6 +46,7 @@ fn run<R: Threads + Wait + Sync, F: Shelf, K: Sink, T: Sink, G: Gate + Sync>(
 ) -> CallEnd
     requires out { (F.state shelf.old).out ≡ 0 }
     requires is_run { command_of (map string_bytes words.now) ≡ Some (Command.Run command.now) }
+    requires bounds { IsRunInBounds command.now }
     requires is_anew { command.now.state ≡ None }
     ensures works { Works result (map string_bytes words.now) (outside (F.state shelf.old) (K.state out.old) (T.state trace.old))
         (outside (F.state shelf.new) (K.state out.new) (T.state trace.new)) }
@@ -77,6 +79,7 @@ fn run_or_resume<R: Threads + Wait + Sync, F: Shelf, K: Sink, T: Sink, G: Gate +
 ) -> CallEnd
     requires out { (F.state shelf.old).out ≡ 0 }
     requires is_run { command_of (map string_bytes words.now) ≡ Some (Command.Run command.now) }
+    requires bounds { IsRunInBounds command.now }
     ensures works { WorksAny result (map string_bytes words.now) (outside (F.state shelf.old) (K.state out.old) (T.state trace.old))
         (outside (F.state shelf.new) (K.state out.new) (T.state trace.new)) }
     ensures asked { Asked (names_asked (map string_bytes words.now)) (F.state shelf.old) (F.state shelf.new) }

@@ -2,12 +2,12 @@
 ghost use Rattle.std.specs.Prelude.{◌≡◌, ◌<◌};
 ghost use Rattle.lola_monitor.specs.Outcomes.{PlansName, PlansText, without_plan as without_plan_of};
 
-use crate::outcome::{CallEnd, Unplanned};
+use crate::call_end::{CallEnd, Unplanned};
 use crate::stating::read_specification;
 use lola_front::compile;
 use lola_model::plan::Plan;
 use lola_port::Shelf;
-use lola_report_lines::end::EndLine;
+use lola_report::end::EndLine;
 use lola_value::front::FrontEnd;
 use std::alloc::Global;
 

@@ -1,15 +1,15 @@
 //! The last line of a call, put to a sink.
 ghost use Rattle.std.specs.Prelude.{◌≡◌, ◌<◌, IfOk};
-ghost use Rattle.lola_report_lines.specs.Ends.{end_text};
+ghost use Rattle.lola_report.specs.Ends.{end_text};
 ghost use Rattle.lola_replay.specs.ReplayEnds.{replay_end_text};
 ghost use Rattle.lola_save.specs.StateEnds.{state_end_text};
 ghost use Rattle.lola_monitor.specs.Conclusions.{Concluded, status_found, status_replayed, status_replayed_without, status_stated, status_with, status_without};
 
-use crate::outcome::CallEnd;
+use crate::call_end::CallEnd;
 use lola_port::{PutEnd, Sink};
 use lola_replay::end::{ReplayEnd, replay_end_line};
 use lola_replay::finding::Finding;
-use lola_report_lines::end::{EndLine, end_line};
+use lola_report::end::{EndLine, end_line};
 use lola_save::end::{StateEnd, state_end_line};
 use lola_value::text::{Memory, Text};
 use std::alloc::Global;

@@ -4,7 +4,7 @@ ghost use Rattle.lola_model.specs.Acceptance.{IsAccepted};
 ghost use Rattle.lola_monitor.specs.Command.{replay_with};
 ghost use Rattle.lola_monitor.specs.ReplayOutcomes.{Judges, ReplaysTexts};
 
-use crate::outcome::CallEnd;
+use crate::call_end::CallEnd;
 use crate::reading::read_text;
 use lola_model::plan::Plan;
 use lola_monitor_command::command::ReplayCommand;

@@ -10,29 +10,32 @@ ghost use Rattle.lola_model.specs.declared.journal.Entry.{Entry};
 ghost use Rattle.lola_engine.specs.Behind.{StandsBehind};
 ghost use Rattle.lola_engine.specs.Engines.{IsEngine, IsOptionInTime};
 ghost use Rattle.lola_instances.specs.Stores.{bounded_remembers, bounded_seen};
-ghost use Rattle.lola_save_law.specs.JournalStates.{state_of};
+ghost use Rattle.lola_save_text.specs.JournalStates.{state_of};
 ghost use Rattle.lola_save_text.specs.Fitting.{most_steps};
 ghost use Rattle.lola_save_text.specs.Lines.{state_text};
 ghost use Rattle.lola_rows.specs.Reading.{Shape};
 ghost use Rattle.lola_feed.specs.Lending.{AreGiven, AreRooms, IsLent, names_at, places_of};
 ghost use Rattle.lola_monitor_run.specs.Behind.{HasTakenNone, IsBehind, RunsBehind};
-ghost use Rattle.lola_monitor_run.specs.Feeds.{AreInPlace, AreReady, supply_of, world};
+ghost use Rattle.lola_monitor_run.specs.Feeds.{AreInPlace, AreReady, RunEnds, supply_of, world};
 ghost use Rattle.lola_monitor_run.specs.Running.{IsGoing, IsSetAs, keeping};
 ghost use Rattle.lola_monitor_run.specs.Verdicts.{most_rows};
+ghost use Rattle.lola_monitor_command.specs.Bounds.{IsSnapshotInBounds};
 ghost use Rattle.lola_monitor_command.specs.Command.{command_of};
 ghost use Rattle.lola_monitor_command.specs.Said.{name_at};
+ghost use Rattle.lola_monitor.specs.Causes.{Causes, SourcesCause};
 ghost use Rattle.lola_monitor.specs.Command.{names_asked, snapshot_with};
+ghost use Rattle.lola_monitor.specs.Snapshots.{inputs_of};
 ghost use Rattle.lola_monitor.specs.Monitor.{Asked, outside};
 ghost use Rattle.lola_monitor.specs.Outcomes.{Grew};
-ghost use Rattle.lola_monitor.specs.SnapshotOutcomes.{EndsAfter, RunsRows, SavesState, TookRows, WorksOver, WorksSnapshot, nowhere};
+ghost use Rattle.lola_monitor.specs.SnapshotOutcomes.{CausesOver, EndsAfter, RowsCause, RunsRows, SavesState, TookRows, WorksOver, WorksSnapshot, nowhere};
 
-use crate::ending::{SourcesEnd, end_of, outcome_after};
+use crate::call_end::CallEnd;
+use crate::ending::{SourcesEnd, call_end_after, end_of};
 use crate::nowhere::Nowhere;
-use crate::outcome::CallEnd;
 use crate::planning::without_plan;
-use crate::resuming::without_engine;
+use crate::resuming::{run_of_state, without_engine};
 use crate::sources::{Room, not_fetched, reserve};
-use crate::stating::{Specification, read_engine, read_specification};
+use crate::stating::{ReadSpecification, read_specification};
 use lola_engine::engine::Engine;
 use lola_feed::sources::{fetch_all, give_all_back};
 use lola_feed::worker::SourceWorker;
@@ -45,7 +48,7 @@ use lola_monitor_run::rows::rows_in_turns;
 use lola_monitor_run::run::Run;
 use lola_monitor_run::stop::Stop;
 use lola_port::{Gate, Shelf, Source};
-use lola_report_lines::end::EndLine;
+use lola_report::end::EndLine;
 use lola_save::end::StateEnd;
 use lola_save::save::save;
 use lola_value::text::{Memory, Text};
@@ -114,7 +117,7 @@ fn outcome_of(
                 CallEnd::Line(EndLine::Malformed { source, row, kind })
             }
         },
-        Err(stop) => outcome_after(alloc, run, Err(stop), end),
+        Err(stop) => call_end_after(alloc, run, Err(stop), end),
     }
 }
 
@@ -132,6 +135,7 @@ fn take_rows<R: Threads + Sync, S: Source, G: Gate + Sync>(
     requires start { opening_time start ≡ (keeping run.old).state.merged }
     ensures run { (before : List Entry) → IsBehind before before (keeping run.old)
         → RunsBehind true before result.1 (world (keeping run.old) (map supply_of workers.items) nowhere nowhere) (world (keeping run.new) (map supply_of result.0.items) nowhere nowhere) }
+    ensures ends { RunEnds result.1 (world (keeping run.old) (map supply_of workers.items) nowhere nowhere) (world (keeping run.new) (map supply_of result.0.items) nowhere nowhere) }
     ensures places { AreInPlace workers.items result.0.items }
     ensures setting { IsSetAs (keeping run.old) (keeping run.new) }
     ensures going { OnOk result.1 (IsGoing (keeping run.new)) }
@@ -160,6 +164,9 @@ fn run_lent<R: Threads + Sync, F: Shelf, G: Gate + Sync>(
     ensures rows { (names : List (List ℕ)) (rooms : List Shape) (before : ShelfState)
         → IsLent names rooms before (F.state shelf.old) workers.items → AreRooms (keeping run.old).state.plan (length names) most_rows rooms
         → TookRows result.1 result.0 (keeping run.old) (keeping run.new) names before (F.state shelf.new) }
+    ensures causes { (names : List (List ℕ)) (rooms : List Shape) (before : ShelfState)
+        → IsLent names rooms before (F.state shelf.old) workers.items → AreRooms (keeping run.old).state.plan (length names) most_rows rooms
+        → RowsCause result.1 result.0 (keeping run.old).state.plan names before (F.state shelf.new) }
     ensures setting { IsSetAs (keeping run.old) (keeping run.new) }
     ensures going { OnOk result.1 (IsGoing (keeping run.new)) }
 {
@@ -185,9 +192,12 @@ fn snapshot_lent<R: Threads + Sync, F: Shelf, G: Gate + Sync>(
     requires start { opening_time start ≡ (keeping run.old).state.merged }
     requires given { AreGiven (F.state shelf.old).asks (places_of workers.items) }
     requires out { length workers.items ≤ (F.state shelf.old).out }
-    ensures { (names : List (List ℕ)) (rooms : List Shape) (before : ShelfState)
+    ensures runs { (names : List (List ℕ)) (rooms : List Shape) (before : ShelfState)
         → IsLent names rooms before (F.state shelf.old) workers.items → AreRooms (keeping run.old).state.plan (length names) most_rows rooms
         → RunsRows result specification.now (keeping run.old) names before (F.state shelf.new) }
+    ensures cause { (names : List (List ℕ)) (rooms : List Shape) (before : ShelfState)
+        → IsLent names rooms before (F.state shelf.old) workers.items → AreRooms (keeping run.old).state.plan (length names) most_rows rooms
+        → SourcesCause result (keeping run.old).state.plan names (outside before nowhere nowhere) (outside (F.state shelf.new) nowhere nowhere) }
 {
     let (end, stopped) = run_lent(rt, alloc, run, workers, start, shelf, gate);
     outcome_of(alloc, specification, run, stopped, end)
@@ -209,7 +219,8 @@ fn run_named<R: Threads + Sync, F: Shelf, G: Gate + Sync>(
     requires sources { (1 ≤ length names.now) × (length names.now ≤ 64) }
     requires none { HasTakenNone (keeping run) }
     requires start { opening_time start ≡ (keeping run).state.merged }
-    ensures { RunsRows result specification.now (keeping run) (names_at (map string_bytes words.now) names.now) (F.state shelf.old) (F.state shelf.new) }
+    ensures runs { RunsRows result specification.now (keeping run) (names_at (map string_bytes words.now) names.now) (F.state shelf.old) (F.state shelf.new) }
+    ensures cause { SourcesCause result (keeping run).state.plan (names_at (map string_bytes words.now) names.now) (outside (F.state shelf.old) nowhere nowhere) (outside (F.state shelf.new) nowhere nowhere) }
 {
     let mut run = run;
     let Ok(room) = reserve::<F::File>(alloc, run.plan(), names.len()) else {
@@ -239,7 +250,7 @@ fn snapshot_anew<R: Threads + Sync, F: Shelf, G: Gate + Sync>(
     rt: &R,
     alloc: Global,
     hasher: RandomState,
-    specification: Specification,
+    specification: ReadSpecification,
     words: &[String],
     command: &SnapshotCommand,
     shelf: &mut F,
@@ -251,9 +262,10 @@ fn snapshot_anew<R: Threads + Sync, F: Shelf, G: Gate + Sync>(
     requires none { command.now.state ≡ None }
     requires accepted { IsAccepted specification.plan }
     ensures works { WorksOver result specification.bytes.items specification.plan (snapshot_with (map string_bytes words.now) command.now) (F.state shelf.old) (F.state shelf.new) }
+    ensures cause { CausesOver result specification.bytes.items specification.plan (snapshot_with (map string_bytes words.now) command.now) (F.state shelf.old) (F.state shelf.new) }
     ensures asked { Grew (names_at (map string_bytes words.now) command.now.sources) (F.state shelf.old) (F.state shelf.new) }
 {
-    let Specification { bytes, plan } = specification;
+    let ReadSpecification { bytes, plan } = specification;
     let Ok(run) = Run::create(alloc, hasher, plan, command.start, Show::Triggers, 1) else {
         return CallEnd::Memory;
     };
@@ -275,7 +287,7 @@ fn snapshot_behind<R: Threads + Sync, F: Shelf, G: Gate + Sync>(
     rt: &R,
     alloc: Global,
     hasher: RandomState,
-    specification: Specification,
+    specification: ReadSpecification,
     words: &[String],
     command: &SnapshotCommand,
     place: NamePlace,
@@ -289,24 +301,21 @@ fn snapshot_behind<R: Threads + Sync, F: Shelf, G: Gate + Sync>(
     requires accepted { IsAccepted specification.plan }
     requires texts { list_all is_utf8 specification.plan.spec.texts ≡ true }
     ensures works { WorksOver result specification.bytes.items specification.plan (snapshot_with (map string_bytes words.now) command.now) (F.state shelf.old) (F.state shelf.new) }
+    ensures cause { CausesOver result specification.bytes.items specification.plan (snapshot_with (map string_bytes words.now) command.now) (F.state shelf.old) (F.state shelf.new) }
     ensures asked { Grew (name_at (map string_bytes words.now) place ∷ names_at (map string_bytes words.now) command.now.sources) (F.state shelf.old) (F.state shelf.new) }
 {
-    let Specification { bytes, plan } = specification;
+    let ReadSpecification { bytes, plan } = specification;
     let name = named(words, place);
-    let engine = match read_engine(alloc, hasher, &bytes, plan, name, Show::Triggers, 1, shelf) {
-        Ok(engine) => engine,
+    let resumed = match run_of_state(alloc, hasher, &bytes, plan, name, Show::Triggers, 1, shelf) {
+        Ok(resumed) => resumed,
         Err(end) => return without_engine(end),
-    };
-    let start = engine.times().merge_start();
-    let Ok(run) = Run::resume(alloc, engine) else {
-        return CallEnd::Memory;
     };
     run_named(
         rt,
         alloc,
         &bytes,
-        run,
-        start,
+        resumed.run,
+        resumed.start,
         words,
         command.sources.as_slice(),
         shelf,
@@ -327,7 +336,10 @@ pub fn snapshot<R: Threads + Sync, F: Shelf, G: Gate + Sync>(
 ) -> CallEnd
     requires out { (F.state shelf.old).out ≡ 0 }
     requires is_snapshot { command_of (map string_bytes words.now) ≡ Some (Command.Snapshot command.now) }
+    requires bounds { IsSnapshotInBounds command.now }
     ensures works { (out trace : SinkState) → WorksSnapshot result (snapshot_with (map string_bytes words.now) command.now)
+        (outside (F.state shelf.old) out trace) (outside (F.state shelf.new) out trace) }
+    ensures cause { (out trace : SinkState) → Causes result (inputs_of (snapshot_with (map string_bytes words.now) command.now))
         (outside (F.state shelf.old) out trace) (outside (F.state shelf.new) out trace) }
     ensures asked { Asked (names_asked (map string_bytes words.now)) (F.state shelf.old) (F.state shelf.new) }
 {

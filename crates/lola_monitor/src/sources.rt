@@ -7,14 +7,15 @@ ghost use Rattle.lola_model.specs.declared.journal.Entry.{Entry};
 ghost use Rattle.lola_rows.specs.Reading.{Shape};
 ghost use Rattle.lola_monitor_run.specs.Running.{keeping};
 ghost use Rattle.lola_monitor_run.specs.Verdicts.{most_rows};
-ghost use Rattle.lola_monitor_run.specs.Feeds.{AreInPlace, AreReady, supply_of, world};
+ghost use Rattle.lola_monitor_run.specs.Feeds.{AreInPlace, AreReady, RunEnds, supply_of, world};
 ghost use Rattle.lola_monitor_run.specs.Behind.{EndsBehind, HasTakenNone, IsBehind};
 ghost use Rattle.lola_feed.specs.Lending.{AreGiven, AreRooms, IsLent, names_at, places_of};
+ghost use Rattle.lola_monitor.specs.Causes.{SourcesCause};
 ghost use Rattle.lola_monitor.specs.Monitor.{outside};
 ghost use Rattle.lola_monitor.specs.Outcomes.{EndsSources, Grew, RunsBehindAny, TakesSources, unfetched};
 
-use crate::ending::{end_of, outcome_after};
-use crate::outcome::CallEnd;
+use crate::call_end::CallEnd;
+use crate::ending::{call_end_after, end_of};
 use lola_feed::rooms::reserve_all;
 use lola_feed::sources::{FetchStop, fetch_all, give_all_back};
 use lola_feed::worker::SourceWorker;
@@ -30,7 +31,7 @@ use lola_monitor_threads::run::resume_in_threads;
 use lola_port::{Gate, Shelf, Sink, Source};
 use lola_queue_intake::intake::QueueIntake;
 use lola_queue_intake::seats::{QueueSeat, TakerSeat};
-use lola_report_lines::end::EndLine;
+use lola_report::end::EndLine;
 use lola_rows::EmptyReader;
 use lola_value::text::Memory;
 use std::alloc::Global;
@@ -84,6 +85,8 @@ fn run_in_time<R: Threads + Wait + Sync, S: Source + Send, K: Sink, T: Sink, G: 
     ensures run { (before : List Entry) → IsBehind before before (keeping run.old)
         → EndsBehind false before result.1 (world (keeping run.old) (map supply_of workers.items) (K.state out.old) (T.state trace.old))
         (world (keeping run.new) (map supply_of result.0.items) (K.state out.new) (T.state trace.new)) }
+    ensures ends { RunEnds result.1 (world (keeping run.old) (map supply_of workers.items) (K.state out.old) (T.state trace.old))
+        (world (keeping run.new) (map supply_of result.0.items) (K.state out.new) (T.state trace.new)) }
     ensures places { AreInPlace workers.items result.0.items }
     ensures plan { (keeping run.new).state.plan ≡ (keeping run.old).state.plan }
 {
@@ -115,6 +118,8 @@ fn run_workers<R: Threads + Wait + Sync, S: Source + Send, K: Sink, T: Sink, G: 
     requires start { opening_time start ≡ (keeping run.old).state.merged }
     ensures run { (before : List Entry) → IsBehind before before (keeping run.old)
         → EndsBehind in_turns before result.1 (world (keeping run.old) (map supply_of workers.items) (K.state out.old) (T.state trace.old))
+        (world (keeping run.new) (map supply_of result.0.items) (K.state out.new) (T.state trace.new)) }
+    ensures ends { RunEnds result.1 (world (keeping run.old) (map supply_of workers.items) (K.state out.old) (T.state trace.old))
         (world (keeping run.new) (map supply_of result.0.items) (K.state out.new) (T.state trace.new)) }
     ensures places { AreInPlace workers.items result.0.items }
     ensures plan { (keeping run.new).state.plan ≡ (keeping run.old).state.plan }
@@ -150,6 +155,10 @@ fn run_lent<R: Threads + Wait + Sync, F: Shelf, K: Sink, T: Sink, G: Gate + Sync
         → IsLent names rooms before (F.state shelf.old) workers.items → AreRooms (keeping run.old).state.plan (length names) most_rows rooms
         → RunsBehindAny in_turns result (keeping run.old) names (outside before (K.state out.old) (T.state trace.old))
         (outside (F.state shelf.new) (K.state out.new) (T.state trace.new)) }
+    ensures cause { (names : List (List ℕ)) (rooms : List Shape) (before : ShelfState)
+        → IsLent names rooms before (F.state shelf.old) workers.items → AreRooms (keeping run.old).state.plan (length names) most_rows rooms
+        → SourcesCause result (keeping run.old).state.plan names (outside before (K.state out.old) (T.state trace.old))
+        (outside (F.state shelf.new) (K.state out.new) (T.state trace.new)) }
     ensures asked { (names : List (List ℕ)) (rooms : List Shape) (before : ShelfState)
         → IsLent names rooms before (F.state shelf.old) workers.items → Grew names before (F.state shelf.new) }
 {
@@ -158,7 +167,7 @@ fn run_lent<R: Threads + Wait + Sync, F: Shelf, K: Sink, T: Sink, G: Gate + Sync
     );
     let end = end_of(workers.as_slice());
     give_all_back(shelf, workers);
-    outcome_after(alloc, run, stopped, end)
+    call_end_after(alloc, run, stopped, end)
 }
 
 // Fetches sources, runs their rows, and gives them back.
@@ -183,6 +192,9 @@ fn run_room<R: Threads + Wait + Sync, F: Shelf, K: Sink, T: Sink, G: Gate + Sync
     requires none { room.workers.items ≡ [] }
     requires places { length command.now.sources ≤ vec_capacity room.workers }
     ensures runs { TakesSources command.now.in_turns result (keeping run.old) (names_at (map string_bytes words.now) command.now.sources)
+        (outside (F.state shelf.old) (K.state out.old) (T.state trace.old))
+        (outside (F.state shelf.new) (K.state out.new) (T.state trace.new)) }
+    ensures cause { SourcesCause result (keeping run.old).state.plan (names_at (map string_bytes words.now) command.now.sources)
         (outside (F.state shelf.old) (K.state out.old) (T.state trace.old))
         (outside (F.state shelf.new) (K.state out.new) (T.state trace.new)) }
     ensures asked { Grew (names_at (map string_bytes words.now) command.now.sources) (F.state shelf.old) (F.state shelf.new) }
@@ -232,6 +244,9 @@ pub fn run_sources<R: Threads + Wait + Sync, F: Shelf, K: Sink, T: Sink, G: Gate
     requires start { opening_time start ≡ (keeping run).state.merged }
     requires sources { (1 ≤ length command.now.sources) × (length command.now.sources ≤ 64) }
     ensures runs { TakesSources command.now.in_turns result (keeping run) (names_at (map string_bytes words.now) command.now.sources)
+        (outside (F.state shelf.old) (K.state out.old) (T.state trace.old))
+        (outside (F.state shelf.new) (K.state out.new) (T.state trace.new)) }
+    ensures cause { SourcesCause result (keeping run).state.plan (names_at (map string_bytes words.now) command.now.sources)
         (outside (F.state shelf.old) (K.state out.old) (T.state trace.old))
         (outside (F.state shelf.new) (K.state out.new) (T.state trace.new)) }
     ensures asked { Grew (names_at (map string_bytes words.now) command.now.sources) (F.state shelf.old) (F.state shelf.new) }

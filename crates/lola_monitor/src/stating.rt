@@ -8,7 +8,7 @@ ghost use Rattle.lola_monitor.specs.Outcomes.{PlansName, ReadPlan};
 ghost use Rattle.lola_monitor.specs.Replaying.{IsText};
 ghost use Rattle.lola_monitor.specs.Stating.{EngineRead, Loaded, NoEngine, Unloads, refusal_of};
 
-use crate::outcome::{Unloaded, Unplanned};
+use crate::call_end::{Unloaded, Unplanned};
 use crate::planning::plan_of;
 use crate::reading::{read_name, read_text};
 use lola_engine::engine::Engine;
@@ -19,8 +19,8 @@ use lola_model::plan::Plan;
 use lola_port::{FetchEnd, Shelf};
 use lola_save::end::StateEnd;
 use lola_save::load::load;
-use lola_save_law::law::{start_serves_as_option, state_of_journal_is_saved};
 use lola_save_read::read::ReadEnd;
+use lola_save_text::journal_law::{start_serves_as_option, state_of_journal_is_saved};
 use lola_save_text::law::one_state;
 use std::alloc::Global;
 use std::hash::RandomState;
@@ -30,7 +30,7 @@ const MOST_BYTES: usize = 1048576;
 
 /// A specification that was read: its bytes, and the plan that they were compiled to.
 #[derive(Drop)]
-pub struct Specification {
+pub struct ReadSpecification {
     pub bytes: Vec<u8>,
     pub plan: Plan,
 }
@@ -40,7 +40,7 @@ pub fn read_specification<F: Shelf>(
     alloc: Global,
     shelf: &mut F,
     name: &str,
-) -> Result<Specification, Unplanned>
+) -> Result<ReadSpecification, Unplanned>
     requires { (F.state shelf.old).out < 65536 }
     ensures plan { MatchResult result (λ s. ReadPlan s.plan name.now (F.state shelf.old) (F.state shelf.new)) (λ end. PlansName (Err end) name.now (F.state shelf.old) (F.state shelf.new)) }
     ensures text { IfOk result (λ s. IsText ((F.state shelf.old).told name.now) s.bytes.items) }
@@ -53,7 +53,7 @@ pub fn read_specification<F: Shelf>(
         Err(FetchEnd::Memory) => return Err(Unplanned::Memory),
     };
     match plan_of(alloc, &bytes) {
-        Ok(plan) => Ok(Specification { bytes, plan }),
+        Ok(plan) => Ok(ReadSpecification { bytes, plan }),
         Err(end) => Err(end),
     }
 }

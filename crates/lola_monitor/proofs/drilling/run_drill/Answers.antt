@@ -12,6 +12,12 @@ use Rattle.lola_monitor.proofs.drilling.run_drill.Goals as goal
 pub run_workers-requires-clause-accepted : goal.run_workers-requires-clause-accepted
 run_workers-requires-clause-accepted g c κs within = subst IsAccepted (sym (ap (λ (s : Setting). s.plan) c.in-Ok.ensures.setting)) c.requires.accepted
 
+pub run_workers-requires-clause-none : goal.run_workers-requires-clause-none
+run_workers-requires-clause-none g c κs within = c.in-Ok.ensures.none
+
+pub run_workers-requires-clause-behind : goal.run_workers-requires-clause-behind
+run_workers-requires-clause-behind g c κs within = c.in-Ok.ensures.run
+
 pub run_workers-requires-clause-setting : goal.run_workers-requires-clause-setting
 run_workers-requires-clause-setting g c κs within = c.in-Ok.ensures.setting ∙ ap drill_setting (sym (ap (λ (s : Setting). s.plan) c.in-Ok.ensures.setting))
 

@@ -7,7 +7,7 @@ use Rattle.lola_monitor.specs.Command.{Names}
 use Rattle.lola_monitor.specs.Monitor.{outside}
 use Rattle.lola_monitor.specs.Outcomes.{Works}
 use Rattle.lola_monitor.proofs.Asking.{names_are, run_is, specification_is}
-use Rattle.lola_monitor.proofs.Options.{sources_are, start_is, workers_are}
+use Rattle.lola_monitor.proofs.Starts.{option_in_time}
 use Rattle.lola_monitor.proofs.Calls.{asked_for, grew_noted, grew_twice, grew_unplanned}
 use Rattle.lola_monitor.proofs.Working.{works_after, works_unplanned}
 use Rattle.lola_monitor.proofs.monitor.run.Goals as goal
@@ -73,15 +73,15 @@ returns-clause-asked g c =
     (grew_twice c.word_at.result.now sources before mid after c.in-Ok.ensures.shelf c.run_sources.ensures.asked)
 
 pub create-requires-clause-workers : goal.create-requires-clause-workers
-create-requires-clause-workers g c = workers_are (map (string_bytes {Z = Global}) c.args.words.now) c.args.command.now c.requires.is_run
+create-requires-clause-workers g c = c.requires.bounds.workers
 
 pub create-requires-clause-start : goal.create-requires-clause-start
-create-requires-clause-start g c = start_is (map (string_bytes {Z = Global}) c.args.words.now) c.args.command.now c.requires.is_run
+create-requires-clause-start g c = option_in_time c.args.command.now.start c.requires.bounds.start
 
 pub run_sources-requires-clause-start : goal.run_sources-requires-clause-start
 run_sources-requires-clause-start g c κs lives =
     let run = c.in-Ok-create.ensures in
-    ap (λ (s : Setting). opening_time s.start) (sym run.setting) ∙ sym run.fresh.engine.merged
+    ap (λ (s : Setting). opening_time s.start) (sym run.setting) ∙ sym run.behind.engine.merged
 
 pub run_sources-requires-clause-sources : goal.run_sources-requires-clause-sources
-run_sources-requires-clause-sources g c κs lives = sources_are (map (string_bytes {Z = Global}) c.args.words.now) c.args.command.now c.requires.is_run
+run_sources-requires-clause-sources g c κs lives = c.requires.bounds.sources

@@ -9,7 +9,7 @@ returns-in-Some-clause-works g c =
     let words = map (string_bytes {Z = Global}) c.args.words.now in
     let command = c.args.command.now in
     let stated : command.state ≡ Some c.in-Some.place = search in
-    inr (inl (record { names = resumption_with words command c.in-Some.place; is_command = resumption_is words command c.requires.is_run c.in-Some.place stated; works = c.resume.ensures.works }))
+    inr (inl (record { names = resumption_with words command c.in-Some.place; is_command = resumption_is words command c.requires.is_run c.in-Some.place stated; works = c.resume.ensures.works; cause = c.resume.ensures.cause }))
 
 pub returns-in-None-clause-works : goal.returns-in-None-clause-works
 returns-in-None-clause-works g c =

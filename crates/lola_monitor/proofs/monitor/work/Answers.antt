@@ -1,4 +1,5 @@
-use Rattle.std.proofs.Common.{Global, ◌≡◌, None, Some, inl, inr, map, refl, rules, string_bytes}
+use Rattle.std.proofs.Common.{Global, ◌≡◌, None, Some, IfSome, arith, inl, inr, map, refl, rules, string_bytes, subst}
+use Rattle.lola_monitor_command.specs.Bounds.{IsDrillInBounds, IsInBounds}
 use Rattle.lola_monitor_command.specs.Command.{command_of}
 use Rattle.lola_monitor_command.specs.declared.command.Command.TheVariants.{Analyse, Drill, Replay, Snapshot}
 use Rattle.lola_monitor.specs.Command.{names_asked, snapshot_with}
@@ -7,7 +8,6 @@ use Rattle.lola_monitor.proofs.AnyCommand.{analysis_without, drill_without, none
 use Rattle.lola_monitor.proofs.AnyEnds.{no_memory}
 use Rattle.lola_monitor.proofs.Asking.{drill_is, snapshot_is}
 use Rattle.lola_monitor.proofs.Calls.{asked, grew_none}
-use Rattle.lola_monitor.proofs.Options.{drill_workers_are, number_is}
 use Rattle.lola_monitor.proofs.Working.{works_drilled}
 use Rattle.lola_monitor.proofs.monitor.work.Goals as goal
 
@@ -26,21 +26,21 @@ returns-in-Err-clause-works g c =
 pub returns-in-Ok-None-clause-works : goal.returns-in-Ok-None-clause-works
 returns-in-Ok-None-clause-works g c =
     let words = map (string_bytes {Z = Global}) c.args.words.now in
-    let is : command_of words ≡ None = first_of (search rules, cc (c.in-Ok-None.ensures)) in
+    let is : command_of words ≡ None = first_of (search rules, cc (c.in-Ok-None.ensures.command)) in
     inl (none_without words is, record { no_command = is; shelf = refl; early = record { trace = refl; out = refl } })
 
 -- an analysis
 pub returns-in-Ok-Some-Analyse-clause-works : goal.returns-in-Ok-Some-Analyse-clause-works
 returns-in-Ok-Some-Analyse-clause-works g c =
     let words = map (string_bytes {Z = Global}) c.args.words.now in
-    let is : command_of words ≡ Some (Analyse c.in-Ok-Some-Analyse.specification) = first_of (search rules, cc (c.in-Ok-Some-Analyse.ensures)) in
+    let is : command_of words ≡ Some (Analyse c.in-Ok-Some-Analyse.specification) = first_of (search rules, cc (c.in-Ok-Some-Analyse.ensures.command)) in
     inl (analysis_without words c.in-Ok-Some-Analyse.specification is, c.analyse.ensures.works (g.K.Sink.state c.args.out.now) (g.T.Sink.state c.args.trace.now))
 
 -- a replay
 pub returns-in-Ok-Some-Replay-clause-works : goal.returns-in-Ok-Some-Replay-clause-works
 returns-in-Ok-Some-Replay-clause-works g c =
     let words = map (string_bytes {Z = Global}) c.args.words.now in
-    let is : command_of words ≡ Some (Replay c.in-Ok-Some-Replay.command) = first_of (search rules, cc (c.in-Ok-Some-Replay.ensures)) in
+    let is : command_of words ≡ Some (Replay c.in-Ok-Some-Replay.command) = first_of (search rules, cc (c.in-Ok-Some-Replay.ensures.command)) in
     inl (replay_without words c.in-Ok-Some-Replay.command is, c.replay.ensures.works (g.K.Sink.state c.args.out.now) (g.T.Sink.state c.args.trace.now))
 
 -- a snapshot
@@ -48,30 +48,31 @@ pub returns-in-Ok-Some-Snapshot-clause-works : goal.returns-in-Ok-Some-Snapshot-
 returns-in-Ok-Some-Snapshot-clause-works g c =
     let words = map (string_bytes {Z = Global}) c.args.words.now in
     let command = c.in-Ok-Some-Snapshot.command in
-    let is : command_of words ≡ Some (Snapshot command) = first_of (search rules, cc (c.in-Ok-Some-Snapshot.ensures)) in
+    let is : command_of words ≡ Some (Snapshot command) = first_of (search rules, cc (c.in-Ok-Some-Snapshot.ensures.command)) in
     inr (inr (record {
       names = snapshot_with words command;
       is_command = snapshot_is words command is;
       works = c.snapshot.ensures.works (g.K.Sink.state c.args.out.now) (g.T.Sink.state c.args.trace.now);
+      cause = c.snapshot.ensures.cause (g.K.Sink.state c.args.out.now) (g.T.Sink.state c.args.trace.now);
     }))
 
 -- a drill
 pub drill-requires-clause-number : goal.drill-requires-clause-number
 drill-requires-clause-number g c κs within =
-    let words = map (string_bytes {Z = Global}) c.args.words.now in
-    let is : command_of words ≡ Some (Drill c.in-Ok-Some-Drill.command) = first_of (search rules, cc (c.in-Ok-Some-Drill.ensures)) in
-    number_is words c.in-Ok-Some-Drill.command is
+    let is : c.in-Ok-Some-Drill.field-0 ≡ Some (Drill c.in-Ok-Some-Drill.command) = search in
+    let bounds : IsDrillInBounds c.in-Ok-Some-Drill.command = subst (λ o. IfSome o IsInBounds) is c.in-Ok-Some-Drill.ensures.bounds in
+    omega (arith, bounds.number)
 
 pub drill-requires-clause-workers : goal.drill-requires-clause-workers
 drill-requires-clause-workers g c κs within =
-    let words = map (string_bytes {Z = Global}) c.args.words.now in
-    let is : command_of words ≡ Some (Drill c.in-Ok-Some-Drill.command) = first_of (search rules, cc (c.in-Ok-Some-Drill.ensures)) in
-    drill_workers_are words c.in-Ok-Some-Drill.command is
+    let is : c.in-Ok-Some-Drill.field-0 ≡ Some (Drill c.in-Ok-Some-Drill.command) = search in
+    let bounds : IsDrillInBounds c.in-Ok-Some-Drill.command = subst (λ o. IfSome o IsInBounds) is c.in-Ok-Some-Drill.ensures.bounds in
+    bounds.workers
 
 pub returns-in-Ok-Some-Drill-clause-works : goal.returns-in-Ok-Some-Drill-clause-works
 returns-in-Ok-Some-Drill-clause-works g c =
     let words = map (string_bytes {Z = Global}) c.args.words.now in
-    let is : command_of words ≡ Some (Drill c.in-Ok-Some-Drill.command) = first_of (search rules, cc (c.in-Ok-Some-Drill.ensures)) in
+    let is : command_of words ≡ Some (Drill c.in-Ok-Some-Drill.command) = first_of (search rules, cc (c.in-Ok-Some-Drill.ensures.command)) in
     inl (
       drill_without words c.in-Ok-Some-Drill.command is,
       works_drilled words (outside (g.F.Shelf.state c.args.shelf.now) (g.K.Sink.state c.args.out.now) (g.T.Sink.state c.args.trace.now)) c.in-Ok-Some-Drill.command c.drill.result

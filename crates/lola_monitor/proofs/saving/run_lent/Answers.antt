@@ -2,10 +2,11 @@ use Rattle.std.proofs.Common.{◌≤◌, List, length, ap, sym, subst, ◌∙◌
 use Rattle.lola_feed.specs.Feeding.{Working}
 use Rattle.lola_monitor_run.specs.Running.{keeping}
 use Rattle.lola_monitor.specs.Outcomes.{end_of, ends_of}
-use Rattle.lola_monitor.specs.SnapshotOutcomes.{TookRows}
+use Rattle.lola_monitor.specs.SnapshotOutcomes.{RowsCause, TookRows}
 use Rattle.lola_monitor.specs.declared.ending.SourcesEnd.{SourcesEnd}
 use Rattle.lola_monitor.proofs.Lent.{as_many, still_given}
 use Rattle.lola_monitor.proofs.SnapshotRows.{took_rows}
+use Rattle.lola_monitor.proofs.SourceCauses.{caused_rows}
 use Rattle.lola_monitor.proofs.saving.run_lent.Goals as goal
 
 pub end_of-end-requires : goal.end_of-end-requires
@@ -36,3 +37,16 @@ returns-clause-rows g c names rooms before is are =
     (sym (c.end_of-end.ensures ∙ ap (λ (ws : List Working). end_of (ends_of ws)) c.as_slice.ensures.value))
     (took_rows names rooms before (g.F.Shelf.state c.args.shelf.now) after kept0 kept1 lent last c.take_rows-workers.result.1 is are places
     (c.give_all_back.ensures.returned names rooms before lent is places) c.take_rows-workers.ensures.run)
+
+pub returns-clause-causes : goal.returns-clause-causes
+returns-clause-causes g c names rooms before is are =
+    let lent = c.args.workers.items in
+    let last = c.take_rows-workers.result.0.items in
+    let kept0 = keeping c.args.run.now in
+    let kept1 = keeping c.take_rows-workers.new.run in
+    let places = c.take_rows-workers.ensures.places in
+    let after = g.F.Shelf.state c.give_all_back.new.shelf in
+    subst (λ (e : SourcesEnd). RowsCause c.take_rows-workers.result.1 e kept0.state.plan names before after)
+    (sym (c.end_of-end.ensures ∙ ap (λ (ws : List Working). end_of (ends_of ws)) c.as_slice.ensures.value))
+    (caused_rows names rooms before (g.F.Shelf.state c.args.shelf.now) after kept0 kept1 lent last c.take_rows-workers.result.1 is are places
+    (c.give_all_back.ensures.returned names rooms before lent is places) c.take_rows-workers.ensures.ends)

@@ -4,9 +4,11 @@ use Rattle.lola_monitor_run.specs.Running.{keeping}
 use Rattle.lola_monitor_run.specs.Verdicts.{most_rows}
 use Rattle.lola_feed.specs.Lending.{AreRooms, Fetches, IsLent, names_at}
 use Rattle.lola_value.specs.Words.{word_at}
+use Rattle.lola_monitor.specs.Causes.{SourcesCause}
 use Rattle.lola_monitor.specs.Monitor.{outside}
 use Rattle.lola_monitor.specs.Outcomes.{TakesSources}
 use Rattle.lola_monitor.proofs.Lent.{grew_unfetched, lent_ready, unfetched_run}
+use Rattle.lola_monitor.proofs.SourceCauses.{caused_unfetched}
 use Rattle.lola_monitor.proofs.sources.run_room.Goals as goal
 
 -- nothing was run
@@ -24,6 +26,21 @@ returns-in-Err-clause-runs g c =
     subst (λ o. TakesSources command.in_turns o kept (names_at words command.sources) (outside before out trace) (outside after out trace)) (sym c.not_fetched.ensures)
     (unfetched_run command.in_turns c.in-Err.stop kept (names_at words command.sources) rooms before after out trace workers
     (subst (λ (numbers : List ℕ). Fetches (Err c.in-Err.stop) (names_at words numbers) rooms before after workers) c.as_slice-names.ensures c.in-Err.ensures))
+
+pub returns-in-Err-clause-cause : goal.returns-in-Err-clause-cause
+returns-in-Err-clause-cause g c =
+    let words = map (string_bytes {Z = Global}) c.args.words.now in
+    let numbers = c.args.command.now.sources in
+    let rooms = c.args.room.readers.items in
+    let workers = c.fetch_all.new.workers.items in
+    let before = g.F.Shelf.state c.args.shelf.now in
+    let after = g.F.Shelf.state c.fetch_all.new.shelf in
+    let out = g.K.Sink.state c.args.out.now in
+    let trace = g.T.Sink.state c.args.trace.now in
+    let plan = (keeping c.args.run.now).state.plan in
+    subst (λ o. SourcesCause o plan (names_at words numbers) (outside before out trace) (outside after out trace)) (sym c.not_fetched.ensures)
+    (caused_unfetched c.in-Err.stop plan (names_at words numbers) rooms before after out trace workers
+    (subst (λ (n : List ℕ). Fetches (Err c.in-Err.stop) (names_at words n) rooms before after workers) c.as_slice-names.ensures c.in-Err.ensures))
 
 pub returns-in-Err-clause-asked : goal.returns-in-Err-clause-asked
 returns-in-Err-clause-asked g c =
@@ -76,6 +93,20 @@ returns-clause-runs g c =
           (subst (λ (n : List ℕ). IsLent (names_at words n) rooms before mid workers) c.as_slice-names.ensures c.in_default.ensures)
           (subst (λ n. AreRooms plan n most_rows rooms) many c.requires.readers);
     }))
+
+pub returns-clause-cause : goal.returns-clause-cause
+returns-clause-cause g c =
+    let words = map (string_bytes {Z = Global}) c.args.words.now in
+    let numbers = c.args.command.now.sources in
+    let rooms = c.args.room.readers.items in
+    let plan = (keeping c.args.run.now).state.plan in
+    let workers = c.fetch_all.new.workers.items in
+    let before = g.F.Shelf.state c.args.shelf.now in
+    let mid = g.F.Shelf.state c.fetch_all.new.shelf in
+    let many : length numbers ≡ length (names_at words numbers) = sym (length-map numbers (word_at words)) in
+    c.run_lent.ensures.cause (names_at words numbers) rooms before
+    (subst (λ (n : List ℕ). IsLent (names_at words n) rooms before mid workers) c.as_slice-names.ensures c.in_default.ensures)
+    (subst (λ n. AreRooms plan n most_rows rooms) many c.requires.readers)
 
 pub returns-clause-asked : goal.returns-clause-asked
 returns-clause-asked g c =

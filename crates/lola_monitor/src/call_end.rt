@@ -1,7 +1,7 @@
 //! How a call ends before its last line is put.
 
 use lola_replay::end::ReplayEnd;
-use lola_report_lines::end::EndLine;
+use lola_report::end::EndLine;
 use lola_save::end::StateEnd;
 use lola_value::front::Refusal;
 use lola_value::text::Text;
