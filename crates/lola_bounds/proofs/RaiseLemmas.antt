@@ -6,9 +6,9 @@ use Rattle.lola_model.specs.Parts.{listed_streams}
 use Rattle.lola_model.specs.declared.expr.Expr.{Expr}
 use Rattle.lola_model.specs.declared.expr.Expr.TheVariants.{Literal, Parameter, Read, Window, Defaults', Unary', Both', Choice'}
 use Rattle.lola_model.specs.declared.spec.Stream.{Stream}
-use Rattle.lola_model_parts.specs.Reading.{parts_of, TakesAll}
-use Rattle.lola_model_parts.specs.declared.part.ReadPart.{ReadPart}
-use Rattle.lola_model_parts.proofs.Fused.{fused_streams}
+use Rattle.lola_model.specs.Visits.{parts_of, TakesAll}
+use Rattle.lola_model.specs.declared.part.ReadPart.{ReadPart}
+use Rattle.lola_model.proofs.Fused.{fused_streams}
 use Rattle.lola_bounds.specs.Offsets.{IsRaised, part_offset}
 
 -- the greatest of two lists

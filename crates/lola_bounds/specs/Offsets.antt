@@ -2,8 +2,8 @@
 use Rattle.std.specs.Prelude.{ℕ, ◌≡◌, ◌<◌, ◌≤◌, List, [], All, if◌then◌else◌, max, length, nat_eq, slice_index}
 use Rattle.lola_model.specs.Bounds.{offset_by, offsets_onto, greatest_offset}
 use Rattle.lola_model.specs.declared.spec.Spec.{Spec}
-use Rattle.lola_model_parts.specs.declared.part.ReadPart.{ReadPart}
-use Rattle.lola_model_parts.specs.declared.part.ReadPart.TheVariants.{Read, Window}
+use Rattle.lola_model.specs.declared.part.ReadPart.{ReadPart}
+use Rattle.lola_model.specs.declared.part.ReadPart.TheVariants.{Read, Window}
 
 -- no offset of a specification is above 4,096
 pub record HasSmallOffsets (spec : Spec) : Type 0 where

@@ -6,9 +6,9 @@ ghost use Rattle.lola_model.specs.Parts.{listed_streams};
 ghost use Rattle.lola_bounds.specs.Offsets.{IsRaised, part_offset};
 
 use lola_model::expr::Access;
+use lola_model::part::{PartVisitor, ReadPart};
 use lola_model::spec::Stream;
-use lola_model_parts::part::{PartVisitor, ReadPart};
-use lola_model_parts::walk::visit_streams;
+use lola_model::walk::visit_streams;
 use std::convert::Infallible;
 
 /// Raises the greatest offset of a stream, if it has a place among these.

@@ -16,10 +16,10 @@ use Rattle.lola_model.proofs.Journals.{table_lines-append_one, text_of-append}
 use Rattle.lola_model.proofs.Orderly.{answered_grows, answered_orderly, of_more_rows}
 use Rattle.lola_step_contents.specs.Ends.{lines_of}
 use Rattle.lola_step_contents.proofs.Settled.{stay_settled}
-use Rattle.lola_step.specs.Notes.{read_verdict}
+use Rattle.lola_step.specs.Notes.{read_step_value}
 use Rattle.lola_step.specs.Progress.{IsRun}
 use Rattle.lola_step.specs.Steps.{IsDoneStep}
-use Rattle.lola_step.specs.declared.verdict.Verdict.{Verdict}
+use Rattle.lola_step.specs.declared.step_value.StepValue.{StepValue}
 use Rattle.lola_engine.specs.declared.end.EngineEnd.{EngineEnd}
 use Rattle.lola_engine.specs.declared.end.EngineEnd.TheVariants.{Fault, Memory}
 use Rattle.lola_engine.specs.Going.{Add, CutsOn, EndsOn, FailsOn, Goes, HasRun, RunsOn, Tally, lines_after}
@@ -136,10 +136,10 @@ module _ (t : Tally) (start : ℕ) (x : Step) (m0 : Memories) (s0 : Seen) (x0 x1
         text = e ∙ sym (append-nil x0);
       }
 
-  module _ (time : ℕ) (at : x.time ≡ time) (m1 : Memories) (s1 : Seen) (verdicts : List Verdict)
-      (ends : (table : List TableRow) → IsRun t.plan t.names table → StandsBetween t.names m0 s0 (content_after t.plan start table) → IsDoneStep t.plan t.show start table x t.names m1 s1 verdicts) where
+  module _ (time : ℕ) (at : x.time ≡ time) (m1 : Memories) (s1 : Seen) (step_values : List StepValue)
+      (ends : (table : List TableRow) → IsRun t.plan t.names table → StandsBetween t.names m0 s0 (content_after t.plan start table) → IsDoneStep t.plan t.show start table x t.names m1 s1 step_values) where
     abbrev ls : List (List ℕ)
-    ls = lines_of t.show time t.plan.spec.streams (map (read_verdict t.names) verdicts)
+    ls = lines_of t.show time t.plan.spec.streams (map (read_step_value t.names) step_values)
 
     its_lines : (steps : List Step) → HasRun t start steps m0 s0 → Add t start steps (x ∷ []) ls
     its_lines steps h =
@@ -147,7 +147,7 @@ module _ (t : Tally) (start : ℕ) (x : Step) (m0 : Memories) (s0 : Seen) (x0 x1
         ap (table_lines t.show t.plan.spec.streams) (more steps m0 s0 h)
         ∙ (table_lines-append_one t.show t.plan.spec.streams (rows steps) (row steps)
         ∙ (ap (λ (ks : List (List ℕ)). lines_after t start steps ++ ks) d.lines
-        ∙ ap (λ n. lines_after t start steps ++ lines_of t.show n t.plan.spec.streams (map (read_verdict t.names) verdicts)) at))
+        ∙ ap (λ n. lines_after t start steps ++ lines_of t.show n t.plan.spec.streams (map (read_step_value t.names) step_values)) at))
 
     -- it is done, but for its lines
     pub goes_cut : (u : Tally) (m2 : Memories) (s2 : Seen) → AppendsPart x0 x1 (text_of ls) → Goes (Err Memory) start (x ∷ []) t m0 s0 u m2 s2 x0 x1

@@ -4,7 +4,7 @@ use Rattle.lola_value.specs.declared.text.Field.{Field}
 use Rattle.lola_model.specs.Texts.{value_lines}
 use Rattle.lola_model.specs.declared.journal.Show.{Show}
 use Rattle.lola_model.specs.declared.spec.Stream.{Stream}
-use Rattle.lola_report_lines.specs.Verdicts.{IsShown, line_of_sort}
+use Rattle.lola_report.specs.Verdicts.{IsShown, line_of_sort}
 use Rattle.lola_step_contents.specs.Ends.{RowValue, lines_at}
 
 -- by this answer, a value of a stream has its one line or none

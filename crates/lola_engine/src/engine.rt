@@ -260,7 +260,7 @@ fn run_step<R: Threads + Sync, S: StreamStore + Sync, G: Gate + Sync>(
         &state.plan,
         state.show,
         time,
-        state.scratch.verdicts(),
+        state.scratch.values(),
         &state.texts,
         lines,
     ) {

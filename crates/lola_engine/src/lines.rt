@@ -5,14 +5,14 @@ ghost use Rattle.lola_value.specs.Appending.{AppendsPart};
 ghost use Rattle.lola_value.specs.Naming.{Naming, read, read_params};
 ghost use Rattle.lola_model.specs.Texts.{text_of};
 ghost use Rattle.lola_step_contents.specs.Ends.{lines_of};
-ghost use Rattle.lola_step.specs.Notes.{AreVerdicts, IsVerdict, read_verdict};
+ghost use Rattle.lola_step.specs.Notes.{AreStepValues, IsStepValue, read_step_value};
 ghost use Rattle.lola_engine.specs.Shown.{IsShownBy, lines_for};
 
 use lola_model::journal::Show;
 use lola_model::plan::Plan;
 use lola_model::spec::{Sort, Stream};
-use lola_report_lines::verdict::verdict_line;
-use lola_step::verdict::Verdict;
+use lola_report::verdict::verdict_line;
+use lola_step::step_value::StepValue;
 use lola_text::TextTable;
 use lola_value::text::{Field, Fields, Memory, Text};
 use lola_value::value::{Params, Value};
@@ -70,23 +70,23 @@ fn put_line(
     plan: &Plan,
     show: Show,
     time: u64,
-    verdict: &Verdict,
+    step_value: &StepValue,
     texts: &TextTable,
     to: &mut Text,
 ) -> Result<usize, Memory>
-    requires { IsVerdict plan.now verdict.now }
-    ensures text { OnOk result (to.new ≡ to.old ++ text_of (lines_for show time plan.now.spec.streams (read_verdict texts.now.held verdict.now))) }
-    ensures count { IfOk result (λ count. count ≡ length (lines_for show time plan.now.spec.streams (read_verdict texts.now.held verdict.now))) }
+    requires { IsStepValue plan.now step_value.now }
+    ensures text { OnOk result (to.new ≡ to.old ++ text_of (lines_for show time plan.now.spec.streams (read_step_value texts.now.held step_value.now))) }
+    ensures count { IfOk result (λ count. count ≡ length (lines_for show time plan.now.spec.streams (read_step_value texts.now.held step_value.now))) }
     ensures few { IfOk result (λ count. count ≤ 1) }
-    ensures memory { OnErr result (AppendsPart to.old to.new (text_of (lines_for show time plan.now.spec.streams (read_verdict texts.now.held verdict.now)))) }
+    ensures memory { OnErr result (AppendsPart to.old to.new (text_of (lines_for show time plan.now.spec.streams (read_step_value texts.now.held step_value.now)))) }
 {
-    let stream = &plan.spec.streams.as_slice()[verdict.stream as usize];
-    if !is_shown(show, stream, verdict.value) {
+    let stream = &plan.spec.streams.as_slice()[step_value.stream as usize];
+    if !is_shown(show, stream, step_value.value) {
         return Ok(0);
     }
-    let params = fields_of(alloc, &verdict.params, texts)?;
-    let value = field_of(alloc, verdict.value, texts)?;
-    verdict_line(plan, verdict.stream, time, &params, &value, to)?;
+    let params = fields_of(alloc, &step_value.params, texts)?;
+    let value = field_of(alloc, step_value.value, texts)?;
+    verdict_line(plan, step_value.stream, time, &params, &value, to)?;
     Ok(1)
 }
 
@@ -97,19 +97,19 @@ pub(crate) fn put_lines(
     plan: &Plan,
     show: Show,
     time: u64,
-    verdicts: &[Verdict],
+    step_values: &[StepValue],
     texts: &TextTable,
     to: &mut Text,
 ) -> Result<usize, Memory>
-    requires { AreVerdicts plan.now verdicts.now }
-    ensures text { OnOk result (to.new ≡ to.old ++ text_of (lines_of show time plan.now.spec.streams (map (read_verdict texts.now.held) verdicts.now))) }
-    ensures count { IfOk result (λ count. count ≡ length (lines_of show time plan.now.spec.streams (map (read_verdict texts.now.held) verdicts.now))) }
-    ensures few { IfOk result (λ count. count ≤ length verdicts.now) }
-    ensures memory { OnErr result (AppendsPart to.old to.new (text_of (lines_of show time plan.now.spec.streams (map (read_verdict texts.now.held) verdicts.now)))) }
+    requires { AreStepValues plan.now step_values.now }
+    ensures text { OnOk result (to.new ≡ to.old ++ text_of (lines_of show time plan.now.spec.streams (map (read_step_value texts.now.held) step_values.now))) }
+    ensures count { IfOk result (λ count. count ≡ length (lines_of show time plan.now.spec.streams (map (read_step_value texts.now.held) step_values.now))) }
+    ensures few { IfOk result (λ count. count ≤ length step_values.now) }
+    ensures memory { OnErr result (AppendsPart to.old to.new (text_of (lines_of show time plan.now.spec.streams (map (read_step_value texts.now.held) step_values.now)))) }
 {
     let mut count = 0;
-    for verdict in verdicts {
-        count += put_line(alloc, plan, show, time, verdict, texts, to)?;
+    for step_value in step_values {
+        count += put_line(alloc, plan, show, time, step_value, texts, to)?;
     }
     Ok(count)
 }

@@ -47,7 +47,7 @@ fn calculation(r: Result<i128, FaultKind>) -> Outcome
 }
 
 /// A truth value, as an outcome.
-fn verdict(b: bool) -> Outcome
+fn truth_of(b: bool) -> Outcome
     ensures { result ≡ outcome.Value (value.Bool b) }
 {
     Outcome::Value(Value::Bool(b))
@@ -68,12 +68,12 @@ pub fn operate(operator: Binary, kind: Kind, a: Value, b: Value) -> Outcome
         Binary::Mul => calculation(mul(kind, number(a), number(b))),
         Binary::Div => calculation(div(kind, number(a), number(b))),
         Binary::Rem => calculation(rem(kind, number(a), number(b))),
-        Binary::Less => verdict(number(a) < number(b)),
-        Binary::LessEqual => verdict(number(a) <= number(b)),
-        Binary::Greater => verdict(number(b) < number(a)),
-        Binary::GreaterEqual => verdict(number(b) <= number(a)),
-        Binary::Equal => verdict(equal(a, b)),
-        Binary::Different => verdict(!equal(a, b)),
+        Binary::Less => truth_of(number(a) < number(b)),
+        Binary::LessEqual => truth_of(number(a) <= number(b)),
+        Binary::Greater => truth_of(number(b) < number(a)),
+        Binary::GreaterEqual => truth_of(number(b) <= number(a)),
+        Binary::Equal => truth_of(equal(a, b)),
+        Binary::Different => truth_of(!equal(a, b)),
         Binary::And => Outcome::Value(b),
         Binary::Or => Outcome::Value(b),
     }
@@ -87,7 +87,7 @@ pub fn negate(operator: Prefix, kind: Kind, a: Value) -> Outcome
     ensures kind { IsTrue (is_outcome_of kind result) }
 {
     match operator {
-        Prefix::Not => verdict(!truth(a)),
+        Prefix::Not => truth_of(!truth(a)),
         Prefix::Minus => calculation(neg(kind, number(a))),
     }
 }

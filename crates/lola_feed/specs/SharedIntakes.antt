@@ -121,7 +121,7 @@ pub record FinishesBy (old new : SeatedAt) : Type 0 where
   pub over : old.told ≡ true → new ≡ old
 
 -- a finish that is owed is made again
-pub record SettlesBy (settled : Bool) (old new : SeatedAt) : Type 0 where
+pub record FinishesOwedBy (settled : Bool) (old new : SeatedAt) : Type 0 where
   pub owed : old.owes ≡ true → (old.told ≡ true) × ((f : Finish) × (new ≡ record old { seat = after_finish old.seat f; owes = is_owed f }))
   pub none : old.owes ≡ false → new ≡ old
   pub answer : settled ≡ true → new.owes ≡ false

@@ -3,7 +3,7 @@
 ghost use Rattle.std.specs.Prelude.{◌≡◌, false, true};
 ghost use Rattle.lola_merge.specs.declared.state.Offer.{Offer};
 ghost use Rattle.lola_feed.specs.Feeding.{IsBack};
-ghost use Rattle.lola_feed.specs.SharedIntakes.{FinishesBy, OffersBy, SettlesBy, is_owed, new_desk};
+ghost use Rattle.lola_feed.specs.SharedIntakes.{FinishesBy, OffersBy, FinishesOwedBy, is_owed, new_desk};
 
 use crate::desk::Desk;
 use crate::intake::{Finish, IntakeSeat, SourceIntake};
@@ -121,13 +121,13 @@ fn finish_at<P: IntakeSeat, I: SourceIntake<P>, R: Wait>(rt: &R, intake: &I, hel
 }
 
 // Makes a finish again that is owed.
-fn settle_at<P: IntakeSeat, I: SourceIntake<P>, R: Wait>(
+fn finish_owed_at<P: IntakeSeat, I: SourceIntake<P>, R: Wait>(
     rt: &R,
     intake: &I,
     held: &mut HeldSeat<P>,
 ) -> bool
     requires own { held.old.seat.intake ≡ I.id intake.now }
-    ensures settles { SettlesBy result held.old held.new }
+    ensures settles { FinishesOwedBy result held.old held.new }
 {
     if !held.owes {
         return true;
@@ -147,10 +147,10 @@ impl<'a, P: IntakeSeat, I: SourceIntake<P>, R: Wait + Sync> SeatDesk<'a, P, I, R
     }
 
     /// Tells the intake that the source has ended, where it had no room for that yet. It tells whether nothing is left to be told.
-    pub fn settle(&mut self) -> bool
-        ensures settles { SettlesBy result self.old self.new }
+    pub fn finish_owed(&mut self) -> bool
+        ensures settles { FinishesOwedBy result self.old self.new }
     {
-        settle_at(self.rt, self.intake, &mut self.held)
+        finish_owed_at(self.rt, self.intake, &mut self.held)
     }
 
     /// What it has of the seat.

@@ -147,7 +147,7 @@ impl<S: Source> SourceWorker<S> {
 
     /// Makes sure that a row waits, and tells its stamp; nothing is offered. Where none is to come the worker has ended,
     /// and the desk is told so once.
-    pub fn hold<D: Desk>(&mut self, desk: &mut D) -> Option<u64>
+    pub fn look_ahead<D: Desk>(&mut self, desk: &mut D) -> Option<u64>
         requires { self.old.reader.shape.index ≡ D.source desk.old }
         ensures looks { Looks D.offers D.finishes desk.old desk.new result self.old self.new }
         ensures kept { Keeps self.old.reader self.new.reader }

@@ -19,7 +19,7 @@ use Rattle.lola_model.specs.declared.spec.Spec.{Spec}
 use Rattle.lola_model.specs.declared.spec.WindowSpec.{WindowSpec}
 use Rattle.lola_types.specs.Found.{Setting, found, parameters_at, window_parameters, joint}
 use Rattle.lola_types.specs.Refused.{taken, operand_kind}
-use Rattle.lola_types.specs.Filled.{settled, settled_if, filled, filled_all, SameTree, SameArguments}
+use Rattle.lola_types.specs.Filled.{given_kind, filled_if_free, filled, filled_all, SameTree, SameArguments}
 use Rattle.lola_front.proofs.Bools.{and_same, append_same}
 use Rattle.lola_types.specs.declared.found.Found.{Found}
 use Rattle.lola_types.specs.declared.found.Found.TheVariants.{Of, Free, Unknown, Broken}
@@ -290,7 +290,7 @@ mutual
   alike_self_all End = tt
   alike_self_all (More' u a v rest) = (alike_self a, alike_self_all rest)
 
-alike_settled : (k : Kind) (e f : Expr) → Alike Any e f → Alike Any e (settled k f)
+alike_settled : (k : Kind) (e f : Expr) → Alike Any e f → Alike Any e (given_kind k f)
 alike_settled k (Literal p v) (Literal q w) h = h
 alike_settled k (Parameter p i) (Parameter q j) h = h
 alike_settled k (Read p n how args) (Read q m why brgs) h = h
@@ -301,12 +301,12 @@ alike_settled k (Both' p s u a v b) (Both' q r x c y d) h = (tt, h.1, alike_sett
 alike_settled k (Choice' p u a v b w e) (Choice' q x c y d z f) h = (tt, h.1, alike_settled k b d h.2, alike_settled k e f h.3)
 alike_settled k _ _ h = absurd h
 
-pub alike_settled_if : (o : Option Kind) (p : Found) (e f : Expr) → Alike Any e f → Alike Any e (settled_if o p f)
-alike_settled_if None p e f h = h
-alike_settled_if (Some k) (Of l c) e f h = h
-alike_settled_if (Some k) Free e f h = alike_settled k e f h
-alike_settled_if (Some k) Unknown e f h = h
-alike_settled_if (Some k) Broken e f h = h
+pub alike_filled_if_free : (o : Option Kind) (p : Found) (e f : Expr) → Alike Any e f → Alike Any e (filled_if_free o p f)
+alike_filled_if_free None p e f h = h
+alike_filled_if_free (Some k) (Of l c) e f h = h
+alike_filled_if_free (Some k) Free e f h = alike_settled k e f h
+alike_filled_if_free (Some k) Unknown e f h = h
+alike_filled_if_free (Some k) Broken e f h = h
 
 module _ (s : Setting) where
   mutual
@@ -317,23 +317,23 @@ module _ (s : Setting) where
     alike_filled (Window p n args) = (tt, refl, alike_filled_all (window_parameters s (slice_get s.windows n)) args)
     alike_filled (Defaults' p u a v b) = (
       tt,
-      alike_settled_if (taken (found s (Defaults' p u a v b))) (found s a) a (filled s a) (alike_filled a),
-      alike_settled_if (taken (found s (Defaults' p u a v b))) (found s b) b (filled s b) (alike_filled b),
+      alike_filled_if_free (taken (found s (Defaults' p u a v b))) (found s a) a (filled s a) (alike_filled a),
+      alike_filled_if_free (taken (found s (Defaults' p u a v b))) (found s b) b (filled s b) (alike_filled b),
     )
-    alike_filled (Unary' p operator u a) = (tt, refl, alike_settled_if (taken (found s (Unary' p operator u a))) (found s a) a (filled s a) (alike_filled a))
+    alike_filled (Unary' p operator u a) = (tt, refl, alike_filled_if_free (taken (found s (Unary' p operator u a))) (found s a) a (filled s a) (alike_filled a))
     alike_filled (Both' p operator u a v b) = (
       tt,
       refl,
-      alike_settled_if (operand_kind operator (found s (Both' p operator u a v b)) (joint (found s a) (found s b))) (found s a) a (filled s a) (alike_filled a),
-      alike_settled_if (operand_kind operator (found s (Both' p operator u a v b)) (joint (found s a) (found s b))) (found s b) b (filled s b) (alike_filled b),
+      alike_filled_if_free (operand_kind operator (found s (Both' p operator u a v b)) (joint (found s a) (found s b))) (found s a) a (filled s a) (alike_filled a),
+      alike_filled_if_free (operand_kind operator (found s (Both' p operator u a v b)) (joint (found s a) (found s b))) (found s b) b (filled s b) (alike_filled b),
     )
     alike_filled (Choice' p u t v a w b) = (
       tt,
       alike_filled t,
-      alike_settled_if (taken (found s (Choice' p u t v a w b))) (found s a) a (filled s a) (alike_filled a),
-      alike_settled_if (taken (found s (Choice' p u t v a w b))) (found s b) b (filled s b) (alike_filled b),
+      alike_filled_if_free (taken (found s (Choice' p u t v a w b))) (found s a) a (filled s a) (alike_filled a),
+      alike_filled_if_free (taken (found s (Choice' p u t v a w b))) (found s b) b (filled s b) (alike_filled b),
     )
 
     alike_filled_all : (ks : List Kind) (args : Arguments) → AlikeAll Any args (filled_all s ks args)
     alike_filled_all ks End = tt
-    alike_filled_all ks (More' u a v rest) = (alike_settled_if (slice_get ks 0) (found s a) a (filled s a) (alike_filled a), alike_filled_all (drop 1 ks) rest)
+    alike_filled_all ks (More' u a v rest) = (alike_filled_if_free (slice_get ks 0) (found s a) a (filled s a) (alike_filled a), alike_filled_all (drop 1 ks) rest)

@@ -13,7 +13,7 @@ use Rattle.lola_model.specs.declared.expr.Expr.TheVariants.{Both'}
 use Rattle.lola_model.proofs.Build.{Around}
 use Rattle.lola_types.specs.Found.{is_broken, joint, a_truth, arithmetic_part, order_part, equality_part, connected_part, binary_part}
 use Rattle.lola_types.specs.Refused.{taken, compared, where_it_holds, operand_kind, free_refusals, taking_refusals}
-use Rattle.lola_types.specs.Filled.{note, note_part, settled, settled_if}
+use Rattle.lola_types.specs.Filled.{note, note_part, given_kind, filled_if_free}
 use Rattle.lola_types.specs.declared.found.Found.{Found}
 use Rattle.lola_types.specs.declared.found.Found.TheVariants.{Of, Free, Unknown, Broken}
 use Rattle.lola_front.proofs.Bools.{never_back, none_left, none_right}
@@ -27,7 +27,7 @@ module _ (z : Scope) where
   -- what is known of an expression, filled in: where it is free, once it takes a kind of numbers that it does not refuse
   abbrev pub Holds : Found → Expr → Expr → Type 0
   Holds (Of k c) e f = Fits k c f
-  Holds Free e f = (k : Kind) → is_integer k ≡ true → free_refusals k e ≡ [] → Fits k true (settled k f)
+  Holds Free e f = (k : Kind) → is_integer k ≡ true → free_refusals k e ≡ [] → Fits k true (given_kind k f)
   Holds Unknown e f = ⊥
   Holds Broken e f = ⊥
 
@@ -40,19 +40,19 @@ module _ (z : Scope) where
   pub fits_at : (k l : Kind) (c d : Bool) (e : Expr) → k ≡ l → c ≡ d → Fits k c e → Fits l d e
   fits_at k l c d e p q h = (h.0, h.1 ∙ p, h.2 ∙ q)
 
-  operand_some : (k : Kind) (p : Found) (a f : Expr) → Holds p a f → matches k p ≡ true → taking_refusals (Some k) p a ≡ [] → Fits k (is_sure p) (settled_if (Some k) p f)
+  operand_some : (k : Kind) (p : Found) (a f : Expr) → Holds p a f → matches k p ≡ true → taking_refusals (Some k) p a ≡ [] → Fits k (is_sure p) (filled_if_free (Some k) p f)
   operand_some k (Of l c) a f h m r = fits_at l k c c f (kind_is l k m) refl h
   operand_some k Free a f h m r = h k m r
   operand_some k Unknown a f h m r = absurd h
   operand_some k Broken a f h m r = absurd h
 
   -- an operand that takes this kind
-  pub operand : (k : Kind) (p : Found) (o : Option Kind) (a f : Expr) → Holds p a f → matches k p ≡ true → o ≡ Some k → taking_refusals o p a ≡ [] → Fits k (is_sure p) (settled_if o p f)
-  operand k p o a f h m e r = subst (λ o. taking_refusals o p a ≡ [] → Fits k (is_sure p) (settled_if o p f)) (sym e) (operand_some k p a f h m) r
+  pub operand : (k : Kind) (p : Found) (o : Option Kind) (a f : Expr) → Holds p a f → matches k p ≡ true → o ≡ Some k → taking_refusals o p a ≡ [] → Fits k (is_sure p) (filled_if_free o p f)
+  operand k p o a f h m e r = subst (λ o. taking_refusals o p a ≡ [] → Fits k (is_sure p) (filled_if_free o p f)) (sym e) (operand_some k p a f h m) r
 
   -- a certain operand
-  pub sure_operand : (k : Kind) (p : Found) (o : Option Kind) (a f : Expr) → Holds p a f → matches k p ≡ true → is_sure p ≡ true → o ≡ Some k → taking_refusals o p a ≡ [] → Fits k true (settled_if o p f)
-  sure_operand k p o a f h m s e r = fits_at k k (is_sure p) true (settled_if o p f) refl s (operand k p o a f h m e r)
+  pub sure_operand : (k : Kind) (p : Found) (o : Option Kind) (a f : Expr) → Holds p a f → matches k p ≡ true → is_sure p ≡ true → o ≡ Some k → taking_refusals o p a ≡ [] → Fits k true (filled_if_free o p f)
+  sure_operand k p o a f h m s e r = fits_at k k (is_sure p) true (filled_if_free o p f) refl s (operand k p o a f h m e r)
 
   module _ (place : Place) (u v : Around) where
     -- two operands of a binary operator
@@ -67,14 +67,14 @@ module _ (z : Scope) where
       -- operands of one kind k, which free ones take; the operator gives the kind l
       one_kind_holds : (w : Found) (o : Option Kind) (l k : Kind) → w ≡ Of l true → o ≡ Some k → binary_row operator l k k ≡ true
           → matches k p ≡ true → is_sure p ≡ true → matches k q ≡ true → is_sure q ≡ true → taking_refusals o p a ≡ [] → taking_refusals o q b ≡ []
-          → Holds w (Both' place operator u a v b) (Both' (note_part place w) operator u (settled_if o p f) v (settled_if o q g))
+          → Holds w (Both' place operator u a v b) (Both' (note_part place w) operator u (filled_if_free o p f) v (filled_if_free o q g))
       one_kind_holds w o l k e eo row mp sp mq sq ra rb =
-          subst (λ x. Holds x (Both' place operator u a v b) (Both' (note_part place x) operator u (settled_if o p f) v (settled_if o q g))) (sym e)
-          (both_fits operator l k k (settled_if o p f) (settled_if o q g) (sure_operand k p o a f hp mp sp eo ra) (sure_operand k q o b g hq mq sq eo rb) row)
+          subst (λ x. Holds x (Both' place operator u a v b) (Both' (note_part place x) operator u (filled_if_free o p f) v (filled_if_free o q g))) (sym e)
+          (both_fits operator l k k (filled_if_free o p f) (filled_if_free o q g) (sure_operand k p o a f hp mp sp eo ra) (sure_operand k q o b g hq mq sq eo rb) row)
 
       arithmetic_one : ((k : Kind) → is_integer k ≡ true → binary_row operator k k k ≡ true) → IsOneKind p q → is_broken (arithmetic_part p q) ≡ false
           → taking_refusals (taken (arithmetic_part p q)) p a ≡ [] → taking_refusals (taken (arithmetic_part p q)) q b ≡ []
-          → Holds (arithmetic_part p q) (Both' place operator u a v b) (Both' (note_part place (arithmetic_part p q)) operator u (settled_if (taken (arithmetic_part p q)) p f) v (settled_if (taken (arithmetic_part p q)) q g))
+          → Holds (arithmetic_part p q) (Both' place operator u a v b) (Both' (note_part place (arithmetic_part p q)) operator u (filled_if_free (taken (arithmetic_part p q)) p f) v (filled_if_free (taken (arithmetic_part p q)) q g))
       arithmetic_one row j h ra rb =
           let k = j.0 in
           let i = arithmetic_is p q (ready p a f hp) (ready q b g hq) k j.1 j.2 h in
@@ -83,7 +83,7 @@ module _ (z : Scope) where
 
       order_one : ((k : Kind) → is_integer k ≡ true → binary_row operator kind.Bool k k ≡ true) → IsOneKind p q → is_broken (order_part p q) ≡ false
           → taking_refusals (where_it_holds (order_part p q) (compared (joint p q))) p a ≡ [] → taking_refusals (where_it_holds (order_part p q) (compared (joint p q))) q b ≡ []
-          → Holds (order_part p q) (Both' place operator u a v b) (Both' (note_part place (order_part p q)) operator u (settled_if (where_it_holds (order_part p q) (compared (joint p q))) p f) v (settled_if (where_it_holds (order_part p q) (compared (joint p q))) q g))
+          → Holds (order_part p q) (Both' place operator u a v b) (Both' (note_part place (order_part p q)) operator u (filled_if_free (where_it_holds (order_part p q) (compared (joint p q))) p f) v (filled_if_free (where_it_holds (order_part p q) (compared (joint p q))) q g))
       order_one row j h ra rb =
           let k = j.0 in
           let i = order_is p q (ready p a f hp) (ready q b g hq) k j.1 j.2 h in
@@ -93,7 +93,7 @@ module _ (z : Scope) where
 
       equality_one : ((k : Kind) → binary_row operator kind.Bool k k ≡ true) → IsOneKind p q → is_broken (equality_part p q) ≡ false
           → taking_refusals (where_it_holds (equality_part p q) (compared (joint p q))) p a ≡ [] → taking_refusals (where_it_holds (equality_part p q) (compared (joint p q))) q b ≡ []
-          → Holds (equality_part p q) (Both' place operator u a v b) (Both' (note_part place (equality_part p q)) operator u (settled_if (where_it_holds (equality_part p q) (compared (joint p q))) p f) v (settled_if (where_it_holds (equality_part p q) (compared (joint p q))) q g))
+          → Holds (equality_part p q) (Both' place operator u a v b) (Both' (note_part place (equality_part p q)) operator u (filled_if_free (where_it_holds (equality_part p q) (compared (joint p q))) p f) v (filled_if_free (where_it_holds (equality_part p q) (compared (joint p q))) q g))
       equality_one row j h ra rb =
           let k = j.0 in
           let i = equality_is p q (ready p a f hp) (ready q b g hq) k j.1 j.2 h in
@@ -116,8 +116,8 @@ module _ (z : Scope) where
 
     arithmetic_holds : (operator : Binary) (p q : Found) (a b f g : Expr) → Holds p a f → Holds q b g → ((k : Kind) → is_integer k ≡ true → binary_row operator k k k ≡ true) → is_broken (arithmetic_part p q) ≡ false
         → taking_refusals (taken (arithmetic_part p q)) p a ≡ [] → taking_refusals (taken (arithmetic_part p q)) q b ≡ []
-        → Holds (arithmetic_part p q) (Both' place operator u a v b) (Both' (note_part place (arithmetic_part p q)) operator u (settled_if (taken (arithmetic_part p q)) p f) v (settled_if (taken (arithmetic_part p q)) q g))
-    arithmetic_holds operator Free Free a b f g hp hq row h ra rb = λ k i r. both_fits operator k k k (settled k f) (settled k g) (hp k i (none_left _ _ r)) (hq k i (none_right (free_refusals k a) (free_refusals k b) r)) (row k i)
+        → Holds (arithmetic_part p q) (Both' place operator u a v b) (Both' (note_part place (arithmetic_part p q)) operator u (filled_if_free (taken (arithmetic_part p q)) p f) v (filled_if_free (taken (arithmetic_part p q)) q g))
+    arithmetic_holds operator Free Free a b f g hp hq row h ra rb = λ k i r. both_fits operator k k k (given_kind k f) (given_kind k g) (hp k i (none_left _ _ r)) (hq k i (none_right (free_refusals k a) (free_refusals k b) r)) (row k i)
     arithmetic_holds operator (Of k c) q a b f g hp hq row h ra rb = arithmetic_one operator (Of k c) q a b f g hp hq row (one_kind k c q (ready q b g hq) (arithmetic_joint (Of k c) q refl (ready q b g hq) h)) h ra rb
     arithmetic_holds operator Free (Of k c) a b f g hp hq row h ra rb = arithmetic_one operator Free (Of k c) a b f g hp hq row (free_kind k c (arithmetic_joint Free (Of k c) refl refl h)) h ra rb
     arithmetic_holds operator Free Unknown a b f g hp hq row h ra rb = absurd hq
@@ -127,7 +127,7 @@ module _ (z : Scope) where
 
     order_holds : (operator : Binary) (p q : Found) (a b f g : Expr) → Holds p a f → Holds q b g → ((k : Kind) → is_integer k ≡ true → binary_row operator kind.Bool k k ≡ true) → is_broken (order_part p q) ≡ false
         → taking_refusals (where_it_holds (order_part p q) (compared (joint p q))) p a ≡ [] → taking_refusals (where_it_holds (order_part p q) (compared (joint p q))) q b ≡ []
-        → Holds (order_part p q) (Both' place operator u a v b) (Both' (note_part place (order_part p q)) operator u (settled_if (where_it_holds (order_part p q) (compared (joint p q))) p f) v (settled_if (where_it_holds (order_part p q) (compared (joint p q))) q g))
+        → Holds (order_part p q) (Both' place operator u a v b) (Both' (note_part place (order_part p q)) operator u (filled_if_free (where_it_holds (order_part p q) (compared (joint p q))) p f) v (filled_if_free (where_it_holds (order_part p q) (compared (joint p q))) q g))
     order_holds operator Free Free a b f g hp hq row h ra rb = one_kind_holds operator Free Free a b f g hp hq a_truth (Some kind.Int64) kind.Bool kind.Int64 refl refl (row kind.Int64 refl) refl refl refl refl ra rb
     order_holds operator (Of k c) q a b f g hp hq row h ra rb = order_one operator (Of k c) q a b f g hp hq row (one_kind k c q (ready q b g hq) (order_joint (Of k c) q refl (ready q b g hq) h)) h ra rb
     order_holds operator Free (Of k c) a b f g hp hq row h ra rb = order_one operator Free (Of k c) a b f g hp hq row (free_kind k c (order_joint Free (Of k c) refl refl h)) h ra rb
@@ -138,7 +138,7 @@ module _ (z : Scope) where
 
     equality_holds : (operator : Binary) (p q : Found) (a b f g : Expr) → Holds p a f → Holds q b g → ((k : Kind) → binary_row operator kind.Bool k k ≡ true) → is_broken (equality_part p q) ≡ false
         → taking_refusals (where_it_holds (equality_part p q) (compared (joint p q))) p a ≡ [] → taking_refusals (where_it_holds (equality_part p q) (compared (joint p q))) q b ≡ []
-        → Holds (equality_part p q) (Both' place operator u a v b) (Both' (note_part place (equality_part p q)) operator u (settled_if (where_it_holds (equality_part p q) (compared (joint p q))) p f) v (settled_if (where_it_holds (equality_part p q) (compared (joint p q))) q g))
+        → Holds (equality_part p q) (Both' place operator u a v b) (Both' (note_part place (equality_part p q)) operator u (filled_if_free (where_it_holds (equality_part p q) (compared (joint p q))) p f) v (filled_if_free (where_it_holds (equality_part p q) (compared (joint p q))) q g))
     equality_holds operator Free Free a b f g hp hq row h ra rb = one_kind_holds operator Free Free a b f g hp hq a_truth (Some kind.Int64) kind.Bool kind.Int64 refl refl (row kind.Int64) refl refl refl refl ra rb
     equality_holds operator (Of k c) q a b f g hp hq row h ra rb = equality_one operator (Of k c) q a b f g hp hq row (one_kind k c q (ready q b g hq) (equality_joint (Of k c) q refl (ready q b g hq) h)) h ra rb
     equality_holds operator Free (Of k c) a b f g hp hq row h ra rb = equality_one operator Free (Of k c) a b f g hp hq row (free_kind k c (equality_joint Free (Of k c) refl refl h)) h ra rb
@@ -155,7 +155,7 @@ module _ (z : Scope) where
 
     pub binary_holds : (operator : Binary) (p q : Found) (a b f g : Expr) → Holds p a f → Holds q b g → is_broken (binary_part operator p q) ≡ false
         → taking_refusals (operand_kind operator (binary_part operator p q) (joint p q)) p a ≡ [] → taking_refusals (operand_kind operator (binary_part operator p q) (joint p q)) q b ≡ []
-        → Holds (binary_part operator p q) (Both' place operator u a v b) (Both' (note_part place (binary_part operator p q)) operator u (settled_if (operand_kind operator (binary_part operator p q) (joint p q)) p f) v (settled_if (operand_kind operator (binary_part operator p q) (joint p q)) q g))
+        → Holds (binary_part operator p q) (Both' place operator u a v b) (Both' (note_part place (binary_part operator p q)) operator u (filled_if_free (operand_kind operator (binary_part operator p q) (joint p q)) p f) v (filled_if_free (operand_kind operator (binary_part operator p q) (joint p q)) q g))
     binary_holds binary.Add p q a b f g hp hq h ra rb = arithmetic_holds binary.Add p q a b f g hp hq arithmetic_self h ra rb
     binary_holds binary.Sub p q a b f g hp hq h ra rb = arithmetic_holds binary.Sub p q a b f g hp hq arithmetic_self h ra rb
     binary_holds binary.Mul p q a b f g hp hq h ra rb = arithmetic_holds binary.Mul p q a b f g hp hq arithmetic_self h ra rb

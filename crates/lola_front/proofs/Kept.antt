@@ -13,7 +13,7 @@ use Rattle.lola_model.specs.declared.spec.Stream.{Stream}
 use Rattle.lola_types.specs.Found.{Setting, found}
 use Rattle.lola_types.specs.Refused.{number_kind, with_parameters}
 use Rattle.lola_types.specs.Filled.{filled, filled_whole, SameTree, FilledWhen, FilledWith, FilledClauses, FilledStream, FilledStreams}
-use Rattle.lola_front.proofs.Alike.{Alike, Any, same_alike, alike_listed, alike_range, alike_settled_if, alike_filled}
+use Rattle.lola_front.proofs.Alike.{Alike, Any, same_alike, alike_listed, alike_range, alike_filled_if_free, alike_filled}
 use Rattle.lola_front.proofs.Bools.{and_same, append_same}
 
 -- an expression and what it is filled in to, with other boxes
@@ -21,7 +21,7 @@ abbrev pub IsKept : Expr → Expr → Type 0
 IsKept e f = (m : Expr) × Alike Any e m × Alike Any m f
 
 kept_whole : (s : Setting) (want : Kind) (e f : Expr) → SameTree (filled_whole s want e) f → IsKept e f
-kept_whole s want e f h = (filled_whole s want e, alike_settled_if (number_kind want) (found s e) e (filled s e) (alike_filled s e), same_alike Any (λ p q x. tt) (filled_whole s want e) f h)
+kept_whole s want e f h = (filled_whole s want e, alike_filled_if_free (number_kind want) (found s e) e (filled s e) (alike_filled s e), same_alike Any (λ p q x. tt) (filled_whole s want e) f h)
 
 -- what is listed of the parts
 

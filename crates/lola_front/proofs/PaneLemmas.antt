@@ -11,7 +11,7 @@ use Rattle.lola_model.specs.Bounds.{ArePanes}
 use Rattle.lola_model.specs.Named.{IsNamed, all_windows, is_span}
 use Rattle.lola_model.specs.Pacings.{ArePacings}
 use Rattle.lola_model.specs.Typed.{IsTyped}
-use Rattle.lola_model.specs.WindowVerdicts.{IsFineEnough}
+use Rattle.lola_model.specs.WindowRefusals.{IsFineEnough}
 use Rattle.lola_model.specs.declared.pacing.ClausePacings.{ClausePacings}
 use Rattle.lola_model.specs.declared.plan.PaneSize.{PaneSize}
 use Rattle.lola_model.specs.declared.spec.Spec.{Spec}

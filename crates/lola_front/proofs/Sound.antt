@@ -13,7 +13,7 @@ use Rattle.lola_model.specs.declared.expr.Expr.TheVariants.{Defaults', Unary', C
 use Rattle.lola_model.proofs.Build.{Around}
 use Rattle.lola_types.specs.Found.{is_broken, prefix_part, defaults_part, choice_part}
 use Rattle.lola_types.specs.Refused.{taken, operator_refusals, free_refusals, taking_refusals}
-use Rattle.lola_types.specs.Filled.{note, note_part, settled, settled_if}
+use Rattle.lola_types.specs.Filled.{note, note_part, given_kind, filled_if_free}
 use Rattle.lola_types.specs.declared.found.Found.{Found}
 use Rattle.lola_types.specs.declared.found.Found.TheVariants.{Of, Free, Unknown, Broken}
 use Rattle.lola_front.proofs.Bools.{never, never_back, none_left, none_right, taken_where}
@@ -37,20 +37,20 @@ module _ (z : Scope) where
     unary_fits operator k ka f p r = (and_from _ _ (and_from _ _ (row_at operator k ka (noted f) p.1 r) p.2) p.0, refl, refl)
 
     pub prefix_holds : (operator : Prefix) (p : Found) (a f : Expr) → Holds z p a f → is_broken (prefix_part operator p) ≡ false → taking_refusals (taken (prefix_part operator p)) p a ≡ []
-        → Holds z (prefix_part operator p) (Unary' place operator u a) (Unary' (note_part place (prefix_part operator p)) operator u (settled_if (taken (prefix_part operator p)) p f))
+        → Holds z (prefix_part operator p) (Unary' place operator u a) (Unary' (note_part place (prefix_part operator p)) operator u (filled_if_free (taken (prefix_part operator p)) p f))
     prefix_holds prefix.Not (Of k c) a f hp h r =
         let i = truth_is (Of k c) refl h in
-        subst (λ x. Holds z x (Unary' place prefix.Not u a) (Unary' (note_part place x) prefix.Not u (settled_if (taken x) (Of k c) f))) (sym i.0)
+        subst (λ x. Holds z x (Unary' place prefix.Not u a) (Unary' (note_part place x) prefix.Not u (filled_if_free (taken x) (Of k c) f))) (sym i.0)
         (unary_fits prefix.Not kind.Bool kind.Bool f (truth_fits (Of k c) a f hp i.1 i.2) refl)
     prefix_holds prefix.Not Free a f hp h r = never h
     prefix_holds prefix.Not Unknown a f hp h r = absurd hp
     prefix_holds prefix.Not Broken a f hp h r = absurd hp
     prefix_holds prefix.Minus (Of k c) a f hp h r =
         let i = signed_is k c h in
-        subst (λ x. Holds z x (Unary' place prefix.Minus u a) (Unary' (note_part place x) prefix.Minus u (settled_if (taken x) (Of k c) f))) (sym i.0)
+        subst (λ x. Holds z x (Unary' place prefix.Minus u a) (Unary' (note_part place x) prefix.Minus u (filled_if_free (taken x) (Of k c) f))) (sym i.0)
         (unary_fits prefix.Minus k k f (fits_at z k k c true f refl i.2 hp) (and_from _ _ i.1 (same_self k)))
     prefix_holds prefix.Minus Free a f hp h r = λ k i q.
-        unary_fits prefix.Minus k k (settled k f) (hp k i (none_right (operator_refusals place.at prefix.Minus k) (free_refusals k a) q))
+        unary_fits prefix.Minus k k (given_kind k f) (hp k i (none_right (operator_refusals place.at prefix.Minus k) (free_refusals k a) q))
         (and_from _ _ (taken_where (is_signed k) _ _ (none_left (operator_refusals place.at prefix.Minus k) (free_refusals k a) q)) (same_self k))
     prefix_holds prefix.Minus Unknown a f hp h r = absurd hp
     prefix_holds prefix.Minus Broken a f hp h r = absurd hp
@@ -64,18 +64,18 @@ module _ (z : Scope) where
     module _ (p q : Found) (a b f g : Expr) (hp : Holds z p a f) (hq : Holds z q b g) where
       defaults_one : IsOneKind p q → is_broken (defaults_part p q) ≡ false
           → taking_refusals (taken (defaults_part p q)) p a ≡ [] → taking_refusals (taken (defaults_part p q)) q b ≡ []
-          → Holds z (defaults_part p q) (Defaults' place u a v b) (Defaults' (note_part place (defaults_part p q)) u (settled_if (taken (defaults_part p q)) p f) v (settled_if (taken (defaults_part p q)) q g))
+          → Holds z (defaults_part p q) (Defaults' place u a v b) (Defaults' (note_part place (defaults_part p q)) u (filled_if_free (taken (defaults_part p q)) p f) v (filled_if_free (taken (defaults_part p q)) q g))
       defaults_one j h ra rb =
           let k = j.0 in
           let o = taken (defaults_part p q) in
           let i = defaults_is p q (ready z p a f hp) (ready z q b g hq) k j.1 j.2 h in
-          subst (λ x. Holds z x (Defaults' place u a v b) (Defaults' (note_part place x) u (settled_if o p f) v (settled_if o q g))) (sym i.0)
-          (defaults_fits k (is_sure p) (settled_if o p f) (settled_if o q g) (operand z k p o a f hp j.3 (ap taken i.0) ra) (sure_operand z k q o b g hq j.4 i.1 (ap taken i.0) rb))
+          subst (λ x. Holds z x (Defaults' place u a v b) (Defaults' (note_part place x) u (filled_if_free o p f) v (filled_if_free o q g))) (sym i.0)
+          (defaults_fits k (is_sure p) (filled_if_free o p f) (filled_if_free o q g) (operand z k p o a f hp j.3 (ap taken i.0) ra) (sure_operand z k q o b g hq j.4 i.1 (ap taken i.0) rb))
 
     pub defaults_holds : (p q : Found) (a b f g : Expr) → Holds z p a f → Holds z q b g → is_broken (defaults_part p q) ≡ false
         → taking_refusals (taken (defaults_part p q)) p a ≡ [] → taking_refusals (taken (defaults_part p q)) q b ≡ []
-        → Holds z (defaults_part p q) (Defaults' place u a v b) (Defaults' (note_part place (defaults_part p q)) u (settled_if (taken (defaults_part p q)) p f) v (settled_if (taken (defaults_part p q)) q g))
-    defaults_holds Free Free a b f g hp hq h ra rb = λ k i r. defaults_fits k true (settled k f) (settled k g) (hp k i (none_left (free_refusals k a) (free_refusals k b) r)) (hq k i (none_right (free_refusals k a) (free_refusals k b) r))
+        → Holds z (defaults_part p q) (Defaults' place u a v b) (Defaults' (note_part place (defaults_part p q)) u (filled_if_free (taken (defaults_part p q)) p f) v (filled_if_free (taken (defaults_part p q)) q g))
+    defaults_holds Free Free a b f g hp hq h ra rb = λ k i r. defaults_fits k true (given_kind k f) (given_kind k g) (hp k i (none_left (free_refusals k a) (free_refusals k b) r)) (hq k i (none_right (free_refusals k a) (free_refusals k b) r))
     defaults_holds (Of k c) q a b f g hp hq h ra rb = defaults_one (Of k c) q a b f g hp hq (one_kind k c q (ready z q b g hq) (defaults_joint (Of k c) q refl (ready z q b g hq) h)) h ra rb
     defaults_holds Free (Of k c) a b f g hp hq h ra rb = defaults_one Free (Of k c) a b f g hp hq (free_kind k c (defaults_joint Free (Of k c) refl refl h)) h ra rb
     defaults_holds Free Unknown a b f g hp hq h ra rb = absurd hq
@@ -94,30 +94,30 @@ module _ (z : Scope) where
       module _ (p q : Found) (a b f g : Expr) (hp : Holds z p a f) (hq : Holds z q b g) where
         choice_one : IsOneKind p q → is_broken (choice_part t p q) ≡ false
             → taking_refusals (taken (choice_part t p q)) p a ≡ [] → taking_refusals (taken (choice_part t p q)) q b ≡ []
-            → Holds z (choice_part t p q) (Choice' place u e v a w b) (Choice' (note_part place (choice_part t p q)) u m v (settled_if (taken (choice_part t p q)) p f) w (settled_if (taken (choice_part t p q)) q g))
+            → Holds z (choice_part t p q) (Choice' place u e v a w b) (Choice' (note_part place (choice_part t p q)) u m v (filled_if_free (taken (choice_part t p q)) p f) w (filled_if_free (taken (choice_part t p q)) q g))
         choice_one j h ra rb =
             let k = j.0 in
             let o = taken (choice_part t p q) in
             let i = choice_is p q (ready z p a f hp) (ready z q b g hq) k j.1 j.2 t (ready z t e m ht) h in
             let s = j.5 i.3 in
-            subst (λ x. Holds z x (Choice' place u e v a w b) (Choice' (note_part place x) u m v (settled_if o p f) w (settled_if o q g))) (sym i.0)
-            (choice_fits k m (settled_if o p f) (settled_if o q g) (truth_fits t e m ht i.1 i.2)
+            subst (λ x. Holds z x (Choice' place u e v a w b) (Choice' (note_part place x) u m v (filled_if_free o p f) w (filled_if_free o q g))) (sym i.0)
+            (choice_fits k m (filled_if_free o p f) (filled_if_free o q g) (truth_fits t e m ht i.1 i.2)
             (sure_operand z k p o a f hp j.3 s.0 (ap taken i.0) ra) (sure_operand z k q o b g hq j.4 s.1 (ap taken i.0) rb))
 
     -- and_from branches are free
     free_choice : (t : Found) (e m a b f g : Expr) → Holds z t e m → Holds z Free a f → Holds z Free b g → is_broken (choice_part t Free Free) ≡ false
-        → Holds z (choice_part t Free Free) (Choice' place u e v a w b) (Choice' (note_part place (choice_part t Free Free)) u m v (settled_if (taken (choice_part t Free Free)) Free f) w (settled_if (taken (choice_part t Free Free)) Free g))
+        → Holds z (choice_part t Free Free) (Choice' place u e v a w b) (Choice' (note_part place (choice_part t Free Free)) u m v (filled_if_free (taken (choice_part t Free Free)) Free f) w (filled_if_free (taken (choice_part t Free Free)) Free g))
     free_choice (Of l c) e m a b f g ht hp hq h =
         let i = truth_where l c h in
-        subst (λ x. Holds z x (Choice' place u e v a w b) (Choice' (note_part place x) u m v (settled_if (taken x) Free f) w (settled_if (taken x) Free g))) (sym i.0)
-        (λ k n r. choice_fits k m (settled k f) (settled k g) (truth_fits (Of l c) e m ht i.1 i.2) (hp k n (none_left (free_refusals k a) (free_refusals k b) r)) (hq k n (none_right (free_refusals k a) (free_refusals k b) r)))
+        subst (λ x. Holds z x (Choice' place u e v a w b) (Choice' (note_part place x) u m v (filled_if_free (taken x) Free f) w (filled_if_free (taken x) Free g))) (sym i.0)
+        (λ k n r. choice_fits k m (given_kind k f) (given_kind k g) (truth_fits (Of l c) e m ht i.1 i.2) (hp k n (none_left (free_refusals k a) (free_refusals k b) r)) (hq k n (none_right (free_refusals k a) (free_refusals k b) r)))
     free_choice Free e m a b f g ht hp hq h = never h
     free_choice Unknown e m a b f g ht hp hq h = absurd ht
     free_choice Broken e m a b f g ht hp hq h = absurd ht
 
     pub choice_holds : (t p q : Found) (e a b m f g : Expr) → Holds z t e m → Holds z p a f → Holds z q b g → is_broken (choice_part t p q) ≡ false
         → taking_refusals (taken (choice_part t p q)) p a ≡ [] → taking_refusals (taken (choice_part t p q)) q b ≡ []
-        → Holds z (choice_part t p q) (Choice' place u e v a w b) (Choice' (note_part place (choice_part t p q)) u m v (settled_if (taken (choice_part t p q)) p f) w (settled_if (taken (choice_part t p q)) q g))
+        → Holds z (choice_part t p q) (Choice' place u e v a w b) (Choice' (note_part place (choice_part t p q)) u m v (filled_if_free (taken (choice_part t p q)) p f) w (filled_if_free (taken (choice_part t p q)) q g))
     choice_holds t Free Free e a b m f g ht hp hq h ra rb = free_choice t e m a b f g ht hp hq h
     choice_holds t (Of k c) q e a b m f g ht hp hq h ra rb = choice_one t e m ht (Of k c) q a b f g hp hq (one_kind k c q (ready z q b g hq) (choice_joint (Of k c) q refl (ready z q b g hq) t (ready z t e m ht) h)) h ra rb
     choice_holds t Free (Of k c) e a b m f g ht hp hq h ra rb = choice_one t e m ht Free (Of k c) a b f g hp hq (free_kind k c (choice_joint Free (Of k c) refl refl t (ready z t e m ht) h)) h ra rb

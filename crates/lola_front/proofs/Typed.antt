@@ -28,7 +28,7 @@ use Rattle.lola_model.specs.declared.spec.Stream.{Stream}
 use Rattle.lola_types.specs.Found.{Setting, found, literal_part, stream_parameters}
 use Rattle.lola_types.specs.LeftOut.{setting_of, missing_kinds}
 use Rattle.lola_types.specs.Refused.{taking_refusals, wanted_refusals, number_kind, taken_literal, whole_refusals, refusals_in, constant_refusals, refusals_of_whole}
-use Rattle.lola_types.specs.Filled.{settled_if, filled, filled_whole, SameTree, FilledWhen, FilledWith, FilledClauses, FilledStream, FilledStreams}
+use Rattle.lola_types.specs.Filled.{filled_if_free, filled, filled_whole, SameTree, FilledWhen, FilledWith, FilledClauses, FilledStream, FilledStreams}
 use Rattle.lola_types.specs.declared.found.Found.{Found}
 use Rattle.lola_types.specs.declared.found.Found.TheVariants.{Of, Free, Unknown, Broken}
 use Rattle.lola_model.specs.Constants.{is_constant, literal_is_known, whole_is_known}
@@ -160,11 +160,11 @@ constant_fits (c ∷ cs) h k v g = first_or_later c cs k v (same_kind c.kind k &
 -- a whole expression, once it takes the kind that is asked of it
 
 module _ (z : Scope) (want : Kind) (at : ℕ) where
-  settled_of : (o : Option Kind) (k : Kind) (c : Bool) (g : Expr) → settled_if o (Of k c) g ≡ g
+  settled_of : (o : Option Kind) (k : Kind) (c : Bool) (g : Expr) → filled_if_free o (Of k c) g ≡ g
   settled_of None k c g = refl
   settled_of (Some l) k c g = refl
 
-  whole_fits : (p : Found) (e g : Expr) → Holds z p e g → wanted_refusals want at p ≡ [] → taking_refusals (number_kind want) p e ≡ [] → Fits z want true (settled_if (number_kind want) p g)
+  whole_fits : (p : Found) (e g : Expr) → Holds z p e g → wanted_refusals want at p ≡ [] → taking_refusals (number_kind want) p e ≡ [] → Fits z want true (filled_if_free (number_kind want) p g)
   whole_fits (Of k c) e g h w r =
       let t = taken_where (same_kind k want && c) _ _ w in
       subst (λ x. Fits z want true x) (sym (settled_of (number_kind want) k c g)) (fits_at z k want c true g (kind_is k want (left_of (same_kind k want) c t)) (right_of (same_kind k want) c t) h)

@@ -9,7 +9,7 @@ use Rattle.lola_lexer.specs.Tokens.{tokens_of}
 use Rattle.lola_lexer.specs.declared.token.Token.{Token}
 use Rattle.lola_parser_grammar.specs.Cursor.{lexemes}
 use Rattle.lola_parser.specs.Places.{Answers, Refuses}
-use Rattle.lola_parser_tree.specs.declared.declarations.Declaration.{Declaration}
+use Rattle.lola_parser_grammar.specs.declared.declarations.Declaration.{Declaration}
 use Rattle.lola_names_refused.specs.Refused as names
 use Rattle.lola_names.specs.Specification.{Resolves}
 use Rattle.lola_types.specs.Refused.{kind_refusals}

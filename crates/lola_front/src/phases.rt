@@ -5,12 +5,10 @@ ghost use Rattle.lola_front.specs.Front.{Fills, Reads, ResolvesText};
 use crate::law::{filled_is_named, filled_is_typed};
 use lola_lexer::cut::tokens;
 use lola_model::spec::Spec;
+use lola_names::law::{resolved_is_named, resolved_notes_constants, spelled_closes_are_spawned};
 use lola_names::resolve;
-use lola_names_law::law::{
-    resolved_is_named, resolved_notes_constants, spelled_closes_are_spawned,
-};
 use lola_parser::reading::specification;
-use lola_parser_tree::declarations::Ast;
+use lola_parser_grammar::declarations::Ast;
 use lola_types::full::check;
 use lola_value::front::FrontEnd;
 use std::alloc::Global;

@@ -1,6 +1,6 @@
 -- Of all specifications that a text is resolved to, kinds filled in, the windows are the same, and so are the offsets onto each stream.
 use Rattle.std.proofs.Common.{◌≡◌, refl, sym, ap, subst, ◌∙◌, ℕ, zero, suc, ◌+◌, ◌<◌, List, [], ◌∷◌, ◌++◌, Some, length, slice_get, nat_eq, if◌then◌else◌, arith}
-use Rattle.lola_parser_tree.specs.declared.declarations.Declaration.{Declaration}
+use Rattle.lola_parser_grammar.specs.declared.declarations.Declaration.{Declaration}
 use Rattle.lola_model.specs.Bounds.{offset_by, offset_onto, offsets_onto}
 use Rattle.lola_model.specs.Named.{counted, window_number}
 use Rattle.lola_model.specs.Parts.{listed_streams}

@@ -10,8 +10,8 @@ use Rattle.lola_model.specs.declared.plan.Plan.{Plan}
 use Rattle.lola_model.specs.declared.spec.Spec.{Spec}
 use Rattle.lola_model.specs.declared.spec.Stream.{Stream}
 use Rattle.lola_model.specs.declared.spec.WindowSpec.{WindowSpec}
-use Rattle.lola_model_law.specs.Alike.{plain_plan}
 use Rattle.lola_front.specs.Front.{IsPlanOf, IsRefusalOf}
+use Rattle.lola_front_law.specs.Alike.{plain_plan}
 use Rattle.lola_front_law.specs.Decided.{IsDecided, IsEarlyRefusal, IsLateRefusal}
 use Rattle.lola_front_law.specs.OneAnswer.{HasOneAnswer}
 use Rattle.lola_front_law.proofs.AlikePlans.{same_offsets}

@@ -17,9 +17,9 @@ use Rattle.lola_model.specs.Named.{has_clause}
 use Rattle.lola_model.specs.NormalForms.{HasInputsBelow}
 use Rattle.lola_model.specs.Leaves.{is_end}
 use Rattle.lola_model.specs.PacingFound.{AreOwn, IsCombined, IsFound, IsGiven, IsGivenEvent, IsJoined, IsRateFound, IsWritten, IsWrittenIn, any_row, finding_at, findings_at, forms_of, given_local, given_rate, input_finding, inputs_with, is_event, is_multiple, is_periodic, is_unpaced, no_pacing, rate_pacing, rates_of, too_wide}
-use Rattle.lola_model.specs.Pacings.{AreVerdicts, Found, InStep, IsClauseFound, IsCloseFound, IsEvalFound, IsFromLeaves, IsPaceFound, IsSpawnFound, finding_of_part, only_pacing, place_of}
+use Rattle.lola_model.specs.Pacings.{AreWindowRefusals, Found, InStep, IsClauseFound, IsCloseFound, IsEvalFound, IsFromLeaves, IsPaceFound, IsSpawnFound, finding_of_part, only_pacing, place_of}
 use Rattle.lola_model.specs.StepOrder.{AreRates, IsPositiveRate}
-use Rattle.lola_model.specs.WindowVerdicts.{IsRateVerdict, IsVerdict}
+use Rattle.lola_model.specs.WindowRefusals.{IsRateRefusal, IsWindowRefusal}
 use Rattle.lola_model.specs.declared.finding.FoundPacing.{FoundPacing}
 use Rattle.lola_model.specs.declared.finding.FoundPacing.TheVariants.{Paced, Refused, Unpaced}
 use Rattle.lola_model.specs.declared.pacing.InputSet.{InputSet}
@@ -346,29 +346,29 @@ gcd_by (suc n) a (suc b) small =
 pub gcd_of : (a b : ℕ) → HasGcd a b
 gcd_of a b = gcd_by b a b (omega arith)
 
-rate_verdict : (r : Ratio) (over : ℕ) → (v : Option Code) × IsRateVerdict r over v
-rate_verdict r over = go (cases_eq (period_over r % r.num) 0) (gcd_of (period_over r / r.num) over)
+rate_refusal : (r : Ratio) (over : ℕ) → (v : Option Code) × IsRateRefusal r over v
+rate_refusal r over = go (cases_eq (period_over r % r.num) 0) (gcd_of (period_over r / r.num) over)
   where
-    fine : period_over r % r.num ≡ 0 → (g : HasGcd (period_over r / r.num) over) → (65536 * g.divisor < over) ⊎ (over ≤ 65536 * g.divisor) → (v : Option Code) × IsRateVerdict r over v
+    fine : period_over r % r.num ≡ 0 → (g : HasGcd (period_over r / r.num) over) → (65536 * g.divisor < over) ⊎ (over ≤ 65536 * g.divisor) → (v : Option Code) × IsRateRefusal r over v
     fine whole g (inl many) = (Some code.WindowTooFine, record { whole = whole; pane = g.divisor; is_pane = g.is; many = many })
     fine whole g (inr few) = (None, record { whole = whole; pane = g.divisor; is_pane = g.is; few = few })
 
-    go : (period_over r % r.num ≡ 0) ⊎ (period_over r % r.num ≡ 0 → ⊥) → HasGcd (period_over r / r.num) over → (v : Option Code) × IsRateVerdict r over v
+    go : (period_over r % r.num ≡ 0) ⊎ (period_over r % r.num ≡ 0 → ⊥) → HasGcd (period_over r / r.num) over → (v : Option Code) × IsRateRefusal r over v
     go (inl whole) g = fine whole g (cases_lt (65536 * g.divisor) over)
     go (inr not_whole) g = (Some code.WindowNeedsWholePeriod, not_whole)
 
-verdict_of : (k : FoundPacing) (over : ℕ) → (v : Option Code) × IsVerdict k over v
-verdict_of (Paced (Event sets)) over = (Some code.WindowOutsidePeriodic, refl)
-verdict_of (Paced (Periodic r)) over = rate_verdict r over
-verdict_of (Paced (Local r)) over = (Some code.WindowOutsidePeriodic, refl)
-verdict_of (Refused r) over = (None, refl)
-verdict_of Unpaced over = (None, refl)
+window_refusal_of : (k : FoundPacing) (over : ℕ) → (v : Option Code) × IsWindowRefusal k over v
+window_refusal_of (Paced (Event sets)) over = (Some code.WindowOutsidePeriodic, refl)
+window_refusal_of (Paced (Periodic r)) over = rate_refusal r over
+window_refusal_of (Paced (Local r)) over = (Some code.WindowOutsidePeriodic, refl)
+window_refusal_of (Refused r) over = (None, refl)
+window_refusal_of Unpaced over = (None, refl)
 
-verdicts_of : (spawns evals closes : List FoundPacing) (ws : List WindowSpec) → (vs : List (Option Code)) × AreVerdicts spawns evals closes ws vs
-verdicts_of spawns evals closes [] = ([], tt)
-verdicts_of spawns evals closes (w ∷ ws) =
-    let v = verdict_of (finding_of_part spawns evals closes w.stream w.part) w.over in
-    let rest = verdicts_of spawns evals closes ws in
+window_refusals_of : (spawns evals closes : List FoundPacing) (ws : List WindowSpec) → (vs : List (Option Code)) × AreWindowRefusals spawns evals closes ws vs
+window_refusals_of spawns evals closes [] = ([], tt)
+window_refusals_of spawns evals closes (w ∷ ws) =
+    let v = window_refusal_of (finding_of_part spawns evals closes w.stream w.part) w.over in
+    let rest = window_refusals_of spawns evals closes ws in
     (v.0 ∷ rest.0, (v.1, rest.1))
 
 -- ---- all that the phase finds
@@ -392,15 +392,15 @@ found_of spec few range low kept =
     let closes =
     steps_of streams windows (IsCloseFound streams owns.owns evals.findings)
     (close_found streams windows range owns.owns owns.fit evals.findings (λ n. rated_at evals.findings n evals.rated)) 0 streams all in
-    let verdicts = verdicts_of spawns.findings evals.findings closes.findings spec.windows in
+    let window_refusals = window_refusals_of spawns.findings evals.findings closes.findings spec.windows in
     record {
       found = record {
         owns = owns.owns;
         spawns = spawns.findings;
         evals = evals.findings;
         closes = closes.findings;
-        verdicts = verdicts.0;
-        are = record { are_own = owns.are; are_spawns = spawns.are; are_evals = evals.are; are_closes = closes.are; are_verdicts = verdicts.1 };
+        window_refusals = window_refusals.0;
+        are = record { are_own = owns.are; are_spawns = spawns.are; are_evals = evals.are; are_closes = closes.are; are_window_refusals = window_refusals.1 };
       };
       spawns = spawns.rated;
       evals = evals.rated;

@@ -1,7 +1,7 @@
 -- Each text has one graph, and so one refusal for a closed walk, or none.
 use Rattle.std.proofs.Common.{◌≡◌, sym, ap, subst, ◌∙◌, ℕ, List, Option, Some, slice_get, inl, inr}
 use Rattle.lola_value.specs.declared.front.Refusal.{Refusal}
-use Rattle.lola_parser_tree.specs.declared.declarations.Declaration.{Declaration}
+use Rattle.lola_parser_grammar.specs.declared.declarations.Declaration.{Declaration}
 use Rattle.lola_graph.specs.Cycle.{IsLeastOnCycle}
 use Rattle.lola_model.specs.Graph.{IsOnZeroWalk, edges_of}
 use Rattle.lola_model.specs.declared.graph.Edge.{Edge}

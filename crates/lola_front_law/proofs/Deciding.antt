@@ -4,7 +4,7 @@ use Rattle.std.specs.List.{Contains}
 use Rattle.lola_value.specs.declared.front.Refusal.{Refusal}
 use Rattle.lola_value.specs.declared.front.FrontEnd.{FrontEnd}
 use Rattle.lola_value.specs.declared.front.FrontEnd.TheVariants as front_end
-use Rattle.lola_parser_tree.specs.declared.declarations.Declaration.{Declaration}
+use Rattle.lola_parser_grammar.specs.declared.declarations.Declaration.{Declaration}
 use Rattle.lola_lexer.specs.Tokens.{Cut, tokens_of}
 use Rattle.lola_lexer.specs.declared.token.Token.{Token}
 use Rattle.lola_parser_grammar.specs.Cursor.{lexemes}

@@ -15,7 +15,7 @@ use Rattle.lola_model.specs.declared.spec.Stream.{Stream}
 use Rattle.lola_model.specs.declared.spec.WindowSpec.{WindowSpec}
 use Rattle.lola_types.specs.Found.{Setting, found, joint, parameters_at, window_parameters}
 use Rattle.lola_types.specs.Refused.{taken, operand_kind, number_kind}
-use Rattle.lola_types.specs.Filled.{settled, settled_if, filled, filled_all, filled_whole, SameTree, SameArguments, FilledWhen, FilledWith, FilledClauses, FilledStreams, IsFilled}
+use Rattle.lola_types.specs.Filled.{given_kind, filled_if_free, filled, filled_all, filled_whole, SameTree, SameArguments, FilledWhen, FilledWith, FilledClauses, FilledStreams, IsFilled}
 use Rattle.lola_types.specs.declared.found.Found.{Found}
 use Rattle.lola_types.specs.declared.found.Found.TheVariants.{Of, Free, Unknown, Broken}
 use Rattle.lola_front_law.proofs.AlikeTrees.{Alike, AlikeAll}
@@ -83,7 +83,7 @@ module _ (ws vs : List WindowSpec) where
 -- ---- of what is filled in
 
 module _ (ws : List WindowSpec) (from : ℕ) where
-  settled_reads : (k : Kind) (e : Expr) → reads ws from (settled k e) ≡ reads ws from e
+  settled_reads : (k : Kind) (e : Expr) → reads ws from (given_kind k e) ≡ reads ws from e
   settled_reads k (Literal p v) = refl
   settled_reads k (Parameter p i) = refl
   settled_reads k (Read p n how args) = refl
@@ -93,12 +93,12 @@ module _ (ws : List WindowSpec) (from : ℕ) where
   settled_reads k (Both' p s u a v b) = join _ _ _ _ (settled_reads k a) (settled_reads k b)
   settled_reads k (Choice' p u t v a w b) = join _ _ _ _ refl (join _ _ _ _ (settled_reads k a) (settled_reads k b))
 
-  settled_if_reads : (o : Option Kind) (p : Found) (e : Expr) → reads ws from (settled_if o p e) ≡ reads ws from e
-  settled_if_reads None p e = refl
-  settled_if_reads (Some k) (Of l c) e = refl
-  settled_if_reads (Some k) Free e = settled_reads k e
-  settled_if_reads (Some k) Unknown e = refl
-  settled_if_reads (Some k) Broken e = refl
+  filled_if_free_reads : (o : Option Kind) (p : Found) (e : Expr) → reads ws from (filled_if_free o p e) ≡ reads ws from e
+  filled_if_free_reads None p e = refl
+  filled_if_free_reads (Some k) (Of l c) e = refl
+  filled_if_free_reads (Some k) Free e = settled_reads k e
+  filled_if_free_reads (Some k) Unknown e = refl
+  filled_if_free_reads (Some k) Broken e = refl
 
   mutual
     same_reads : (e f : Expr) → SameTree e f → reads ws from e ≡ reads ws from f
@@ -127,23 +127,23 @@ module _ (ws : List WindowSpec) (from : ℕ) where
       filled_reads (Window p w args) = join _ _ _ _ refl (filled_all_reads (window_parameters s (slice_get s.windows w)) args)
       filled_reads (Defaults' p u a v b) =
           let o = taken (found s (Defaults' p u a v b)) in
-          join _ _ _ _ (settled_if_reads o (found s a) (filled s a) ∙ filled_reads a) (settled_if_reads o (found s b) (filled s b) ∙ filled_reads b)
-      filled_reads (Unary' p g u a) = settled_if_reads (taken (found s (Unary' p g u a))) (found s a) (filled s a) ∙ filled_reads a
+          join _ _ _ _ (filled_if_free_reads o (found s a) (filled s a) ∙ filled_reads a) (filled_if_free_reads o (found s b) (filled s b) ∙ filled_reads b)
+      filled_reads (Unary' p g u a) = filled_if_free_reads (taken (found s (Unary' p g u a))) (found s a) (filled s a) ∙ filled_reads a
       filled_reads (Both' p g u a v b) =
           let o = operand_kind g (found s (Both' p g u a v b)) (joint (found s a) (found s b)) in
-          join _ _ _ _ (settled_if_reads o (found s a) (filled s a) ∙ filled_reads a) (settled_if_reads o (found s b) (filled s b) ∙ filled_reads b)
+          join _ _ _ _ (filled_if_free_reads o (found s a) (filled s a) ∙ filled_reads a) (filled_if_free_reads o (found s b) (filled s b) ∙ filled_reads b)
       filled_reads (Choice' p u t v a w b) =
           let o = taken (found s (Choice' p u t v a w b)) in
           join _ _ _ _ (filled_reads t)
-          (join _ _ _ _ (settled_if_reads o (found s a) (filled s a) ∙ filled_reads a) (settled_if_reads o (found s b) (filled s b) ∙ filled_reads b))
+          (join _ _ _ _ (filled_if_free_reads o (found s a) (filled s a) ∙ filled_reads a) (filled_if_free_reads o (found s b) (filled s b) ∙ filled_reads b))
 
       filled_all_reads : (ks : List Kind) (args : Arguments) → reads_all ws from (filled_all s ks args) ≡ reads_all ws from args
       filled_all_reads ks End = refl
       filled_all_reads ks (More' u a v rest) =
-          join _ _ _ _ (settled_if_reads (slice_get ks 0) (found s a) (filled s a) ∙ filled_reads a) (filled_all_reads (drop 1 ks) rest)
+          join _ _ _ _ (filled_if_free_reads (slice_get ks 0) (found s a) (filled s a) ∙ filled_reads a) (filled_all_reads (drop 1 ks) rest)
 
     whole_reads : (k : Kind) (e f : Expr) → SameTree (filled_whole s k e) f → reads ws from e ≡ reads ws from f
-    whole_reads k e f h = sym (settled_if_reads (number_kind k) (found s e) (filled s e) ∙ filled_reads e) ∙ same_reads (filled_whole s k e) f h
+    whole_reads k e f h = sym (filled_if_free_reads (number_kind k) (found s e) (filled s e) ∙ filled_reads e) ∙ same_reads (filled_whole s k e) f h
 
     when_filled : (o u : Option Expr) → FilledWhen s o u → when_reads ws from o ≡ when_reads ws from u
     when_filled None None h = refl

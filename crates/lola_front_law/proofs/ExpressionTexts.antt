@@ -8,17 +8,17 @@ use Rattle.std.proofs.lemmas.Str.{is_utf8-from_IsUtf8}
 use Rattle.lola_value.specs.declared.value.Value.{Value}
 use Rattle.lola_value.specs.declared.value.Value.TheVariants as value
 use Rattle.lola_lexer.specs.declared.shape.TokenShape.TheVariants as is
-use Rattle.lola_parser_tree.specs.declared.literals.Name.{Name}
-use Rattle.lola_parser_tree.specs.declared.literals.Value.{Value as Written}
-use Rattle.lola_parser_tree.specs.declared.literals.Value.TheVariants as written
-use Rattle.lola_parser_tree.specs.declared.declarations.Constant.{Constant as TreeConstant}
-use Rattle.lola_parser_tree.specs.declared.declarations.Declaration.{Declaration}
-use Rattle.lola_parser_tree.specs.declared.declarations.Declaration.TheVariants as d
-use Rattle.lola_parser_tree.specs.declared.expressions.Access.{Access as TreeAccess}
-use Rattle.lola_parser_tree.specs.declared.expressions.Access.TheVariants as a
-use Rattle.lola_parser_tree.specs.declared.expressions.Prefix.TheVariants as pre
-use Rattle.lola_parser_tree.specs.declared.expressions.Expr.{Expr as TreeExpr, Row_of-Expr, more_of-Expr, end_of-Expr}
-use Rattle.lola_parser_tree.specs.declared.expressions.Expr.TheVariants as e
+use Rattle.lola_parser_grammar.specs.declared.literals.Name.{Name}
+use Rattle.lola_parser_grammar.specs.declared.literals.Value.{Value as Written}
+use Rattle.lola_parser_grammar.specs.declared.literals.Value.TheVariants as written
+use Rattle.lola_parser_grammar.specs.declared.declarations.Constant.{Constant as TreeConstant}
+use Rattle.lola_parser_grammar.specs.declared.declarations.Declaration.{Declaration}
+use Rattle.lola_parser_grammar.specs.declared.declarations.Declaration.TheVariants as d
+use Rattle.lola_parser_grammar.specs.declared.expressions.Access.{Access as TreeAccess}
+use Rattle.lola_parser_grammar.specs.declared.expressions.Access.TheVariants as a
+use Rattle.lola_parser_grammar.specs.declared.expressions.Prefix.TheVariants as pre
+use Rattle.lola_parser_grammar.specs.declared.expressions.Expr.{Expr as TreeExpr, Row_of-Expr, more_of-Expr, end_of-Expr}
+use Rattle.lola_parser_grammar.specs.declared.expressions.Expr.TheVariants as e
 use Rattle.lola_parser_grammar.specs.Syntax.{Lexeme}
 use Rattle.lola_parser_print.specs.Print as out
 use Rattle.lola_parser_print.specs.Print.{lex, bare, level, heads, left_of, tightness, labelled, call}

@@ -1,7 +1,7 @@
 -- Each text has one refusal for kinds, or none.
 use Rattle.std.proofs.Common.{◌≡◌, refl, sym, ap, subst, ◌∙◌, ℕ, List, [], Option, Some, None, ◌⊎◌, inl, inr}
 use Rattle.lola_value.specs.declared.front.Refusal.{Refusal}
-use Rattle.lola_parser_tree.specs.declared.declarations.Declaration.{Declaration}
+use Rattle.lola_parser_grammar.specs.declared.declarations.Declaration.{Declaration}
 use Rattle.lola_model.specs.Refusals.{IsFirstOf, first_of}
 use Rattle.lola_model.proofs.FirstRefusal.{is_first}
 use Rattle.lola_model.specs.declared.spec.Spec.{Spec}

@@ -4,10 +4,10 @@ use Rattle.lola_value.specs.declared.value.Kind.{Kind}
 use Rattle.lola_value.specs.declared.value.Kind.TheVariants as kind
 use Rattle.lola_value.specs.declared.value.Value.{Value}
 use Rattle.lola_value.specs.declared.value.Value.TheVariants as value
-use Rattle.lola_parser_tree.specs.declared.literals.Value.{Value as Written}
-use Rattle.lola_parser_tree.specs.declared.literals.Value.TheVariants as written
-use Rattle.lola_parser_tree.specs.declared.declarations.Constant.{Constant as TreeConstant}
-use Rattle.lola_parser_tree.specs.declared.declarations.Declaration.{Declaration}
+use Rattle.lola_parser_grammar.specs.declared.literals.Value.{Value as Written}
+use Rattle.lola_parser_grammar.specs.declared.literals.Value.TheVariants as written
+use Rattle.lola_parser_grammar.specs.declared.declarations.Constant.{Constant as TreeConstant}
+use Rattle.lola_parser_grammar.specs.declared.declarations.Declaration.{Declaration}
 use Rattle.lola_model.specs.Wholes.{Whole, condition_wholes, with_wholes, clause_wholes, stream_wholes, wholes_from}
 use Rattle.lola_model.specs.declared.expr.Expr.{Expr}
 use Rattle.lola_model.specs.declared.spec.Clause.{Clause}

@@ -50,3 +50,16 @@ pub mod PlanLiterals
 mod FullFilled
 mod RatedStreams
 mod Phases
+mod PlainExpressions
+mod PlainRows
+mod PlainRuns
+mod PlainStores
+mod PlainLines
+mod BothWays
+mod Corners
+mod LeastMoments
+mod RateFormula
+mod NextLocal
+mod PlacesListed
+mod LayoutRates
+mod DeadlineCorners

@@ -2,12 +2,12 @@
 use Rattle.std.proofs.Common.{◌≡◌, refl, sym, subst, ℕ, zero, suc, ◌+◌, ◌<◌, List, [], ◌∷◌, ◌++◌, Bool, true, false, Option, Some, None, map, length, drop, arith}
 use Rattle.lola_value.specs.Ratio.{Ratio}
 use Rattle.lola_value.specs.declared.value.Kind.{Kind}
-use Rattle.lola_parser_tree.specs.declared.literals.Typed.{Typed}
-use Rattle.lola_parser_tree.specs.declared.pacing.Rhythm.{Rhythm}
-use Rattle.lola_parser_tree.specs.declared.pacing.Rhythm.TheVariants as r
-use Rattle.lola_parser_tree.specs.declared.pacing.Pacing.{Pacing}
-use Rattle.lola_parser_tree.specs.declared.declarations.Declaration.{Declaration}
-use Rattle.lola_parser_tree.specs.declared.declarations.Declaration.TheVariants as d
+use Rattle.lola_parser_grammar.specs.declared.literals.Typed.{Typed}
+use Rattle.lola_parser_grammar.specs.declared.pacing.Rhythm.{Rhythm}
+use Rattle.lola_parser_grammar.specs.declared.pacing.Rhythm.TheVariants as r
+use Rattle.lola_parser_grammar.specs.declared.pacing.Pacing.{Pacing}
+use Rattle.lola_parser_grammar.specs.declared.declarations.Declaration.{Declaration}
+use Rattle.lola_parser_grammar.specs.declared.declarations.Declaration.TheVariants as d
 use Rattle.lola_model.specs.Model.{is_input}
 use Rattle.lola_model.specs.Named.{has_clause}
 use Rattle.lola_model.specs.PacingFound.{given_rate, given_local, IsGivenEvent, IsGiven, IsWritten, IsWrittenIn, IsOwn, AreOwn, finding_at, inputs_with}

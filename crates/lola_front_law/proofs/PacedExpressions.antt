@@ -18,7 +18,7 @@ use Rattle.lola_model.specs.declared.spec.WindowSpec.{WindowSpec}
 use Rattle.lola_model.specs.declared.uses.Use.{Use}
 use Rattle.lola_types.specs.Found.{Setting, found, joint, parameters_at, window_parameters}
 use Rattle.lola_types.specs.Refused.{taken, operand_kind, number_kind}
-use Rattle.lola_types.specs.Filled.{note_part, settled, settled_if, filled, filled_all, filled_whole, SameTree, SameArguments, FilledWhen, FilledWith, FilledClause, FilledClauses, FilledStreams}
+use Rattle.lola_types.specs.Filled.{note_part, given_kind, filled_if_free, filled, filled_all, filled_whole, SameTree, SameArguments, FilledWhen, FilledWith, FilledClause, FilledClauses, FilledStreams}
 use Rattle.lola_types.specs.declared.found.Found.{Found}
 use Rattle.lola_types.specs.declared.found.Found.TheVariants.{Of, Free, Unknown, Broken}
 use Rattle.lola_front_law.proofs.AlikeTrees.{Alike, AnyNumbers}
@@ -100,25 +100,25 @@ module _ (A : Type 0) (f : Expr → List A) (same : (e d : Expr) → IsSamePart 
   join : (xs ys us os : List A) → xs ≡ ys → us ≡ os → xs ++ us ≡ ys ++ os
   join xs ys us os e g = two (λ (l r : List A). l ++ r) xs ys us os e g
 
-  settled_listed : (k : Kind) (e : Expr) → listed f (settled k e) ≡ listed f e
-  settled_listed k (Literal p v) = same (settled k (Literal p v)) (Literal p v) refl
+  settled_listed : (k : Kind) (e : Expr) → listed f (given_kind k e) ≡ listed f e
+  settled_listed k (Literal p v) = same (given_kind k (Literal p v)) (Literal p v) refl
   settled_listed k (Parameter p i) = refl
   settled_listed k (Read p n how args) = refl
   settled_listed k (Window p n args) = refl
   settled_listed k (Defaults' p u a v b) =
-      join _ _ _ _ (same (settled k (Defaults' p u a v b)) (Defaults' p u a v b) refl) (join _ _ _ _ (settled_listed k a) (settled_listed k b))
-  settled_listed k (Unary' p s u a) = join _ _ _ _ (same (settled k (Unary' p s u a)) (Unary' p s u a) refl) (settled_listed k a)
+      join _ _ _ _ (same (given_kind k (Defaults' p u a v b)) (Defaults' p u a v b) refl) (join _ _ _ _ (settled_listed k a) (settled_listed k b))
+  settled_listed k (Unary' p s u a) = join _ _ _ _ (same (given_kind k (Unary' p s u a)) (Unary' p s u a) refl) (settled_listed k a)
   settled_listed k (Both' p s u a v b) =
-      join _ _ _ _ (same (settled k (Both' p s u a v b)) (Both' p s u a v b) refl) (join _ _ _ _ (settled_listed k a) (settled_listed k b))
+      join _ _ _ _ (same (given_kind k (Both' p s u a v b)) (Both' p s u a v b) refl) (join _ _ _ _ (settled_listed k a) (settled_listed k b))
   settled_listed k (Choice' p u t v a w b) =
-      join _ _ _ _ (same (settled k (Choice' p u t v a w b)) (Choice' p u t v a w b) refl) (join _ _ _ _ refl (join _ _ _ _ (settled_listed k a) (settled_listed k b)))
+      join _ _ _ _ (same (given_kind k (Choice' p u t v a w b)) (Choice' p u t v a w b) refl) (join _ _ _ _ refl (join _ _ _ _ (settled_listed k a) (settled_listed k b)))
 
-  settled_if_listed : (o : Option Kind) (p : Found) (e : Expr) → listed f (settled_if o p e) ≡ listed f e
-  settled_if_listed None p e = refl
-  settled_if_listed (Some k) (Of l c) e = refl
-  settled_if_listed (Some k) Free e = settled_listed k e
-  settled_if_listed (Some k) Unknown e = refl
-  settled_if_listed (Some k) Broken e = refl
+  filled_if_free_listed : (o : Option Kind) (p : Found) (e : Expr) → listed f (filled_if_free o p e) ≡ listed f e
+  filled_if_free_listed None p e = refl
+  filled_if_free_listed (Some k) (Of l c) e = refl
+  filled_if_free_listed (Some k) Free e = settled_listed k e
+  filled_if_free_listed (Some k) Unknown e = refl
+  filled_if_free_listed (Some k) Broken e = refl
 
   mutual
     tree_listed : (e d : Expr) → SameTree e d → listed f e ≡ listed f d
@@ -155,27 +155,27 @@ module _ (A : Type 0) (f : Expr → List A) (same : (e d : Expr) → IsSamePart 
       filled_listed (Defaults' p u a v b) =
           let o = taken (found s (Defaults' p u a v b)) in
           join _ _ _ _ (same (filled s (Defaults' p u a v b)) (Defaults' p u a v b) (note_place p (found s (Defaults' p u a v b))))
-          (join _ _ _ _ (settled_if_listed o (found s a) (filled s a) ∙ filled_listed a) (settled_if_listed o (found s b) (filled s b) ∙ filled_listed b))
+          (join _ _ _ _ (filled_if_free_listed o (found s a) (filled s a) ∙ filled_listed a) (filled_if_free_listed o (found s b) (filled s b) ∙ filled_listed b))
       filled_listed (Unary' p g u a) =
           join _ _ _ _ (same (filled s (Unary' p g u a)) (Unary' p g u a) (note_place p (found s (Unary' p g u a))))
-          (settled_if_listed (taken (found s (Unary' p g u a))) (found s a) (filled s a) ∙ filled_listed a)
+          (filled_if_free_listed (taken (found s (Unary' p g u a))) (found s a) (filled s a) ∙ filled_listed a)
       filled_listed (Both' p g u a v b) =
           let o = operand_kind g (found s (Both' p g u a v b)) (joint (found s a) (found s b)) in
           join _ _ _ _ (same (filled s (Both' p g u a v b)) (Both' p g u a v b) (note_place p (found s (Both' p g u a v b))))
-          (join _ _ _ _ (settled_if_listed o (found s a) (filled s a) ∙ filled_listed a) (settled_if_listed o (found s b) (filled s b) ∙ filled_listed b))
+          (join _ _ _ _ (filled_if_free_listed o (found s a) (filled s a) ∙ filled_listed a) (filled_if_free_listed o (found s b) (filled s b) ∙ filled_listed b))
       filled_listed (Choice' p u t v a w b) =
           let o = taken (found s (Choice' p u t v a w b)) in
           join _ _ _ _ (same (filled s (Choice' p u t v a w b)) (Choice' p u t v a w b) (note_place p (found s (Choice' p u t v a w b))))
           (join _ _ _ _ (filled_listed t)
-          (join _ _ _ _ (settled_if_listed o (found s a) (filled s a) ∙ filled_listed a) (settled_if_listed o (found s b) (filled s b) ∙ filled_listed b)))
+          (join _ _ _ _ (filled_if_free_listed o (found s a) (filled s a) ∙ filled_listed a) (filled_if_free_listed o (found s b) (filled s b) ∙ filled_listed b)))
 
       filled_all_listed : (ks : List Kind) (args : Arguments) → listed_all f (filled_all s ks args) ≡ listed_all f args
       filled_all_listed ks End = refl
       filled_all_listed ks (More' u a v rest) =
-          join _ _ _ _ (settled_if_listed (slice_get ks 0) (found s a) (filled s a) ∙ filled_listed a) (filled_all_listed (drop 1 ks) rest)
+          join _ _ _ _ (filled_if_free_listed (slice_get ks 0) (found s a) (filled s a) ∙ filled_listed a) (filled_all_listed (drop 1 ks) rest)
 
     whole_listed : (k : Kind) (e d : Expr) → SameTree (filled_whole s k e) d → listed f e ≡ listed f d
-    whole_listed k e d h = sym (settled_if_listed (number_kind k) (found s e) (filled s e) ∙ filled_listed e) ∙ tree_listed (filled_whole s k e) d h
+    whole_listed k e d h = sym (filled_if_free_listed (number_kind k) (found s e) (filled s e) ∙ filled_listed e) ∙ tree_listed (filled_whole s k e) d h
 
     when_listed : (o u : Option Expr) → FilledWhen s o u → listed_when f o ≡ listed_when f u
     when_listed None None h = refl

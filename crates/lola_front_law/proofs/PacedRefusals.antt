@@ -6,10 +6,10 @@ use Rattle.lola_value.specs.declared.front.Code.{Code}
 use Rattle.lola_value.specs.declared.front.Code.TheVariants as code
 use Rattle.lola_value.specs.declared.front.Refusal.{Refusal}
 use Rattle.lola_model.specs.PacingFound.{finding_at}
-use Rattle.lola_model.specs.PacingRefused.{refusal_where, not_implied, is_filtered, verdict_refusal, finding_refusal, use_refusals, clause_refusals, used}
-use Rattle.lola_model.specs.Pacings.{AreVerdicts, Found, IsCloseFound, IsEvalFound, IsSpawnFound, InStep, finding_of_part, pacing_of, pacings_from, refusals_from, refusals_of, stream_refusals}
+use Rattle.lola_model.specs.PacingRefused.{refusal_where, not_implied, is_filtered, refusal_of_window, finding_refusal, use_refusals, clause_refusals, used}
+use Rattle.lola_model.specs.Pacings.{AreWindowRefusals, Found, IsCloseFound, IsEvalFound, IsSpawnFound, InStep, finding_of_part, pacing_of, pacings_from, refusals_from, refusals_of, stream_refusals}
 use Rattle.lola_model.specs.Parts.{listed_clause}
-use Rattle.lola_model.specs.WindowVerdicts.{IsRateVerdict, IsVerdict}
+use Rattle.lola_model.specs.WindowRefusals.{IsRateRefusal, IsWindowRefusal}
 use Rattle.lola_model.specs.declared.finding.FoundPacing.{FoundPacing}
 use Rattle.lola_model.specs.declared.finding.FoundPacing.TheVariants.{Paced, Refused, Unpaced}
 use Rattle.lola_model.specs.declared.pacing.ClausePacings.{ClausePacings}
@@ -29,51 +29,51 @@ use Rattle.lola_front_law.proofs.PacedStreams.{SameUse, SameUses, PacedClauses, 
 not_both : (p q over : ℕ) → p ≡ q → over ≤ 65536 * p → 65536 * q < over → ⊥
 not_both p q over e few many = omega (arith, e, few, many)
 
-one_rate_verdict : (r : Ratio) (over : ℕ) (v u : Option Code) → IsRateVerdict r over v → IsRateVerdict r over u → v ≡ u
-one_rate_verdict r over None None a b = refl
-one_rate_verdict r over None (Some code.WindowNeedsWholePeriod) a b = absurd (b a.whole)
-one_rate_verdict r over None (Some code.WindowTooFine) a b = absurd (not_both a.pane b.pane over (same_from_IsGcd _ _ _ _ a.is_pane b.is_pane) a.few b.many)
-one_rate_verdict r over None _ a b = absurd b
-one_rate_verdict r over (Some code.WindowNeedsWholePeriod) None a b = absurd (a b.whole)
-one_rate_verdict r over (Some code.WindowNeedsWholePeriod) (Some code.WindowNeedsWholePeriod) a b = refl
-one_rate_verdict r over (Some code.WindowNeedsWholePeriod) (Some code.WindowTooFine) a b = absurd (a b.whole)
-one_rate_verdict r over (Some code.WindowNeedsWholePeriod) _ a b = absurd b
-one_rate_verdict r over (Some code.WindowTooFine) None a b = absurd (not_both b.pane a.pane over (same_from_IsGcd _ _ _ _ b.is_pane a.is_pane) b.few a.many)
-one_rate_verdict r over (Some code.WindowTooFine) (Some code.WindowNeedsWholePeriod) a b = absurd (b a.whole)
-one_rate_verdict r over (Some code.WindowTooFine) (Some code.WindowTooFine) a b = refl
-one_rate_verdict r over (Some code.WindowTooFine) _ a b = absurd b
-one_rate_verdict r over _ u a b = absurd a
+one_rate_refusal : (r : Ratio) (over : ℕ) (v u : Option Code) → IsRateRefusal r over v → IsRateRefusal r over u → v ≡ u
+one_rate_refusal r over None None a b = refl
+one_rate_refusal r over None (Some code.WindowNeedsWholePeriod) a b = absurd (b a.whole)
+one_rate_refusal r over None (Some code.WindowTooFine) a b = absurd (not_both a.pane b.pane over (same_from_IsGcd _ _ _ _ a.is_pane b.is_pane) a.few b.many)
+one_rate_refusal r over None _ a b = absurd b
+one_rate_refusal r over (Some code.WindowNeedsWholePeriod) None a b = absurd (a b.whole)
+one_rate_refusal r over (Some code.WindowNeedsWholePeriod) (Some code.WindowNeedsWholePeriod) a b = refl
+one_rate_refusal r over (Some code.WindowNeedsWholePeriod) (Some code.WindowTooFine) a b = absurd (a b.whole)
+one_rate_refusal r over (Some code.WindowNeedsWholePeriod) _ a b = absurd b
+one_rate_refusal r over (Some code.WindowTooFine) None a b = absurd (not_both b.pane a.pane over (same_from_IsGcd _ _ _ _ b.is_pane a.is_pane) b.few a.many)
+one_rate_refusal r over (Some code.WindowTooFine) (Some code.WindowNeedsWholePeriod) a b = absurd (b a.whole)
+one_rate_refusal r over (Some code.WindowTooFine) (Some code.WindowTooFine) a b = refl
+one_rate_refusal r over (Some code.WindowTooFine) _ a b = absurd b
+one_rate_refusal r over _ u a b = absurd a
 
-one_verdict : (f : FoundPacing) (over : ℕ) (v u : Option Code) → IsVerdict f over v → IsVerdict f over u → v ≡ u
-one_verdict (Paced (Event sets)) over v u a b = a ∙ sym b
-one_verdict (Paced (Periodic r)) over v u a b = one_rate_verdict r over v u a b
-one_verdict (Paced (Local r)) over v u a b = a ∙ sym b
-one_verdict (Refused r) over v u a b = a ∙ sym b
-one_verdict Unpaced over v u a b = a ∙ sym b
+one_window_refusal : (f : FoundPacing) (over : ℕ) (v u : Option Code) → IsWindowRefusal f over v → IsWindowRefusal f over u → v ≡ u
+one_window_refusal (Paced (Event sets)) over v u a b = a ∙ sym b
+one_window_refusal (Paced (Periodic r)) over v u a b = one_rate_refusal r over v u a b
+one_window_refusal (Paced (Local r)) over v u a b = a ∙ sym b
+one_window_refusal (Refused r) over v u a b = a ∙ sym b
+one_window_refusal Unpaced over v u a b = a ∙ sym b
 
 module _ (spawns evals closes : List FoundPacing) where
   -- of a window, if there is one of that number
-  abbrev IsVerdictOf : Option WindowSpec → Option Code → Type 0
-  IsVerdictOf None v = v ≡ None
-  IsVerdictOf (Some w) v = IsVerdict (finding_of_part spawns evals closes w.stream w.part) w.over v
+  abbrev IsWindowRefusalOf : Option WindowSpec → Option Code → Type 0
+  IsWindowRefusalOf None v = v ≡ None
+  IsWindowRefusalOf (Some w) v = IsWindowRefusal (finding_of_part spawns evals closes w.stream w.part) w.over v
 
-  verdict_there : (ws : List WindowSpec) (vs : List (Option Code)) (i : ℕ) → AreVerdicts spawns evals closes ws vs → IsVerdictOf (slice_get ws i) (unwrap_or (slice_get vs i) None)
-  verdict_there [] [] i h = refl
-  verdict_there (w ∷ ws) (v ∷ vs) zero h = h.0
-  verdict_there (w ∷ ws) (v ∷ vs) (suc i) h = verdict_there ws vs i h.1
-  verdict_there [] (v ∷ vs) i h = absurd h
-  verdict_there (w ∷ ws) [] i h = absurd h
+  window_refusal_there : (ws : List WindowSpec) (vs : List (Option Code)) (i : ℕ) → AreWindowRefusals spawns evals closes ws vs → IsWindowRefusalOf (slice_get ws i) (unwrap_or (slice_get vs i) None)
+  window_refusal_there [] [] i h = refl
+  window_refusal_there (w ∷ ws) (v ∷ vs) zero h = h.0
+  window_refusal_there (w ∷ ws) (v ∷ vs) (suc i) h = window_refusal_there ws vs i h.1
+  window_refusal_there [] (v ∷ vs) i h = absurd h
+  window_refusal_there (w ∷ ws) [] i h = absurd h
 
-  one_verdict_of : (o : Option WindowSpec) (v u : Option Code) → IsVerdictOf o v → IsVerdictOf o u → v ≡ u
-  one_verdict_of None v u a b = a ∙ sym b
-  one_verdict_of (Some w) v u a b = one_verdict (finding_of_part spawns evals closes w.stream w.part) w.over v u a b
+  one_window_refusal_of : (o : Option WindowSpec) (v u : Option Code) → IsWindowRefusalOf o v → IsWindowRefusalOf o u → v ≡ u
+  one_window_refusal_of None v u a b = a ∙ sym b
+  one_window_refusal_of (Some w) v u a b = one_window_refusal (finding_of_part spawns evals closes w.stream w.part) w.over v u a b
 
-  same_verdict : (ws us : List WindowSpec) (vs os : List (Option Code)) (i j : ℕ) → slice_get ws i ≡ slice_get us j → AreVerdicts spawns evals closes ws vs → AreVerdicts spawns evals closes us os
+  same_window_refusal : (ws us : List WindowSpec) (vs os : List (Option Code)) (i j : ℕ) → slice_get ws i ≡ slice_get us j → AreWindowRefusals spawns evals closes ws vs → AreWindowRefusals spawns evals closes us os
       → unwrap_or (slice_get vs i) None ≡ unwrap_or (slice_get os j) None
-  same_verdict ws us vs os i j e a b =
-      one_verdict_of (slice_get us j) (unwrap_or (slice_get vs i) None) (unwrap_or (slice_get os j) None)
-      (subst (λ (o : Option WindowSpec). IsVerdictOf o (unwrap_or (slice_get vs i) None)) e (verdict_there ws vs i a))
-      (verdict_there us os j b)
+  same_window_refusal ws us vs os i j e a b =
+      one_window_refusal_of (slice_get us j) (unwrap_or (slice_get vs i) None) (unwrap_or (slice_get os j) None)
+      (subst (λ (o : Option WindowSpec). IsWindowRefusalOf o (unwrap_or (slice_get vs i) None)) e (window_refusal_there ws vs i a))
+      (window_refusal_there us os j b)
 
 -- ---- what is refused of streams
 
@@ -85,14 +85,14 @@ filtered_at ws us [] (b ∷ bs) n h = absurd h
 filtered_at ws us (a ∷ as') [] n h = absurd h
 
 module _ (ws us : List WindowSpec) (all others : List Stream) (same : PacedStreams ws us all others) (spawns evals closes : List FoundPacing) (vs os : List (Option Code))
-    (verdicts : AreVerdicts spawns evals closes ws vs) (later : AreVerdicts spawns evals closes us os) where
+    (window_refusals : AreWindowRefusals spawns evals closes ws vs) (later : AreWindowRefusals spawns evals closes us os) where
   use_refused : (own : FoundPacing) (u w : Use) → SameUse ws us u w → use_refusals all evals vs own u ≡ use_refusals others evals os own w
   use_refused own (OfStream at n) (OfStream by m) h =
       both _ _ _ _ (two (λ (p k : ℕ). not_implied own (finding_at evals k) p) at by n m h.0 h.1)
       (two (λ (b : Bool) (p : ℕ). refusal_where b code.DirectToFiltered p) (is_filtered (slice_get all n)) (is_filtered (slice_get others m)) at by
       (filtered_at ws us all others n same ∙ ap (λ (k : ℕ). is_filtered (slice_get others k)) h.1) h.0)
   use_refused own (OfWindow at i) (OfWindow by j) h =
-      two (λ (o : Option Code) (p : ℕ). verdict_refusal o p) _ _ at by (same_verdict spawns evals closes ws us vs os i j h.1 verdicts later) h.0
+      two (λ (o : Option Code) (p : ℕ). refusal_of_window o p) _ _ at by (same_window_refusal spawns evals closes ws us vs os i j h.1 window_refusals later) h.0
   use_refused own _ _ h = absurd h
 
   uses_refused : (own : FoundPacing) (xs ys : List Use) → SameUses ws us xs ys → flat_map (use_refusals all evals vs own) xs ≡ flat_map (use_refusals others evals os own) ys
@@ -148,16 +148,16 @@ module _ (x y : Spec) (same : PacedStreams x.windows y.windows x.streams y.strea
       one_closes x.windows y.windows x.streams y.streams same g.owns low g.evals f.closes g.closes
       (subst (λ (es : List FoundPacing). InStep (IsCloseFound x.streams g.owns es) 0 x.streams f.closes) same_evals moved) g.are.are_closes
 
-  moved_verdicts : AreVerdicts g.spawns g.evals g.closes x.windows f.verdicts
-  moved_verdicts =
-      let spawns = subst (λ (fs : List FoundPacing). AreVerdicts fs f.evals f.closes x.windows f.verdicts) same_spawns f.are.are_verdicts in
-      let evals = subst (λ (fs : List FoundPacing). AreVerdicts g.spawns fs f.closes x.windows f.verdicts) same_evals spawns in
-      subst (λ (fs : List FoundPacing). AreVerdicts g.spawns g.evals fs x.windows f.verdicts) same_closes evals
+  moved_window_refusals : AreWindowRefusals g.spawns g.evals g.closes x.windows f.window_refusals
+  moved_window_refusals =
+      let spawns = subst (λ (fs : List FoundPacing). AreWindowRefusals fs f.evals f.closes x.windows f.window_refusals) same_spawns f.are.are_window_refusals in
+      let evals = subst (λ (fs : List FoundPacing). AreWindowRefusals g.spawns fs f.closes x.windows f.window_refusals) same_evals spawns in
+      subst (λ (fs : List FoundPacing). AreWindowRefusals g.spawns g.evals fs x.windows f.window_refusals) same_closes evals
 
   pub same_refusals : refusals_of x f ≡ refusals_of y g
   same_refusals =
-      three (λ (ss es cs : List FoundPacing). refusals_from x.streams ss es cs f.verdicts 0 x.streams) _ _ _ _ _ _ same_spawns same_evals same_closes
-      ∙ streams_refused x.windows y.windows x.streams y.streams same g.spawns g.evals g.closes f.verdicts g.verdicts moved_verdicts g.are.are_verdicts 0 x.streams y.streams same
+      three (λ (ss es cs : List FoundPacing). refusals_from x.streams ss es cs f.window_refusals 0 x.streams) _ _ _ _ _ _ same_spawns same_evals same_closes
+      ∙ streams_refused x.windows y.windows x.streams y.streams same g.spawns g.evals g.closes f.window_refusals g.window_refusals moved_window_refusals g.are.are_window_refusals 0 x.streams y.streams same
 
   pub same_pacings : pacings_from f.spawns f.evals f.closes 0 x.streams ≡ pacings_from g.spawns g.evals g.closes 0 y.streams
   same_pacings =

@@ -1,7 +1,7 @@
 -- A specification whose rates are in lowest terms has one refusal for pacings or one list of pacings, and so has a text.
 use Rattle.std.proofs.Common.{◌≡◌, sym, subst, ◌∙◌, ℕ, List, [], Contains}
 use Rattle.lola_value.specs.declared.front.Refusal.{Refusal}
-use Rattle.lola_parser_tree.specs.declared.declarations.Declaration.{Declaration}
+use Rattle.lola_parser_grammar.specs.declared.declarations.Declaration.{Declaration}
 use Rattle.lola_model.specs.PacingFound.{finding_at}
 use Rattle.lola_model.specs.Pacings.{ArePacings, Found, refusals_of}
 use Rattle.lola_model.specs.Refusals.{IsFirstIn}

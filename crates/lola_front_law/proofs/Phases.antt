@@ -2,13 +2,13 @@
 use Rattle.std.proofs.Common.{◌≡◌, refl, inl, inr, ℕ, zero, suc, ◌<◌, List, [], ◌∷◌, Some, length, slice_get, arith}
 use Rattle.lola_value.specs.declared.front.Code.TheVariants as code
 use Rattle.lola_value.specs.declared.front.Refusal.{Refusal}
-use Rattle.lola_parser_tree.specs.declared.declarations.Declaration.{Declaration}
+use Rattle.lola_parser_grammar.specs.declared.declarations.Declaration.{Declaration}
 use Rattle.lola_parser_grammar.specs.Cursor.{lexemes}
 use Rattle.lola_parser_grammar.specs.Whole.{most_levels}
 use Rattle.lola_names.specs.Specification.{Resolves}
 use Rattle.lola_names.specs.Targets.{targets_of}
-use Rattle.lola_names_law.specs.Resolvable.{ResolvesEach}
-use Rattle.lola_names_law.specs.Meant.{ClosesAreSpawned, ResolvedIsNamed, ResolvedNotesConstants, SpelledClosesAreSpawned}
+use Rattle.lola_names.specs.Resolvable.{ResolvesEach}
+use Rattle.lola_names.specs.Meant.{ClosesAreSpawned, ResolvedIsNamed, ResolvedNotesConstants, SpelledClosesAreSpawned}
 use Rattle.lola_types.specs.Refused.{kind_refusals}
 use Rattle.lola_front.specs.Filled.{FilledIsNamed, FilledIsTyped}
 use Rattle.lola_pacing.specs.Accepted.{PacesWindows}

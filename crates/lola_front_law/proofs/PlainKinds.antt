@@ -12,13 +12,13 @@ use Rattle.lola_model.specs.declared.spec.Clause.{Clause}
 use Rattle.lola_model.specs.declared.spec.Spec.{Spec}
 use Rattle.lola_model.specs.declared.spec.Stream.{Stream}
 use Rattle.lola_model.specs.declared.spec.WindowSpec.{WindowSpec}
-use Rattle.lola_model_law.specs.Alike.{nowhere, plain, plain_all, plain_clause, plain_stream, plain_spec}
-use Rattle.lola_types.specs.Filled.{note, note_part, settled, settled_if, filled, filled_all, filled_whole, FilledWhen, FilledWith, FilledClause, FilledClauses, FilledStream, FilledStreams, IsFilled}
+use Rattle.lola_types.specs.Filled.{note, note_part, given_kind, filled_if_free, filled, filled_all, filled_whole, FilledWhen, FilledWith, FilledClause, FilledClauses, FilledStream, FilledStreams, IsFilled}
 use Rattle.lola_types.specs.Found.{Setting, found, found_all, joint, some_broken, arguments_fit, of_kind, kind_found, reference_part, stream_parameters, parameters_at, window_parameters, window_at, prefix_part, binary_part, defaults_part, choice_part}
 use Rattle.lola_types.specs.LeftOut.{first_expression, part_kind, kind_of_expression, declared_kinds, setting_of, kind_after, round_from, round, after_round, rounds, kinds_of}
 use Rattle.lola_types.specs.Refused.{taken, operand_kind, number_kind, with_parameters}
 use Rattle.lola_types.specs.declared.found.Found.{Found}
 use Rattle.lola_types.specs.declared.found.Found.TheVariants.{Of, Free, Unknown, Broken}
+use Rattle.lola_front_law.specs.Alike.{nowhere, plain, plain_all, plain_clause, plain_stream, plain_spec}
 use Rattle.lola_front_law.proofs.AlikeKinds.{two, three}
 use Rattle.lola_front_law.proofs.PlainShapes.{four, same_clause, same_stream, same_spec, tree_plain, pace_plain}
 
@@ -33,7 +33,7 @@ parameters_plain (s ∷ ss) (suc n) = parameters_plain ss n
 
 -- ---- free parts that take a kind
 
-settled_plain : (k : Kind) (e : Expr) → plain (settled k e) ≡ settled k (plain e)
+settled_plain : (k : Kind) (e : Expr) → plain (given_kind k e) ≡ given_kind k (plain e)
 settled_plain k (Literal p v) = refl
 settled_plain k (Parameter p i) = refl
 settled_plain k (Read p n how args) = refl
@@ -43,12 +43,12 @@ settled_plain k (Unary' p s u a) = ap (λ (x : Expr). Unary' (note p k) s nowher
 settled_plain k (Both' p s u a v b) = two (λ (x y : Expr). Both' (note p k) s nowhere x nowhere y) _ _ _ _ (settled_plain k a) (settled_plain k b)
 settled_plain k (Choice' p u t v a w b) = two (λ (x y : Expr). Choice' (note p k) nowhere (plain t) nowhere x nowhere y) _ _ _ _ (settled_plain k a) (settled_plain k b)
 
-settled_if_plain : (o : Option Kind) (p : Found) (e : Expr) → plain (settled_if o p e) ≡ settled_if o p (plain e)
-settled_if_plain None p e = refl
-settled_if_plain (Some k) (Of l c) e = refl
-settled_if_plain (Some k) Free e = settled_plain k e
-settled_if_plain (Some k) Unknown e = refl
-settled_if_plain (Some k) Broken e = refl
+filled_if_free_plain : (o : Option Kind) (p : Found) (e : Expr) → plain (filled_if_free o p e) ≡ filled_if_free o p (plain e)
+filled_if_free_plain None p e = refl
+filled_if_free_plain (Some k) (Of l c) e = refl
+filled_if_free_plain (Some k) Free e = settled_plain k e
+filled_if_free_plain (Some k) Unknown e = refl
+filled_if_free_plain (Some k) Broken e = refl
 
 -- ---- expressions
 
@@ -94,10 +94,10 @@ module _ (s : Setting) where
 
   -- an operand takes its kind in the plain form as in the form with addresses
   operand_plain : (o u : Option Kind) (e : Expr) → o ≡ u → plain (filled s e) ≡ filled there (plain e)
-      → plain (settled_if o (found s e) (filled s e)) ≡ settled_if u (found there (plain e)) (filled there (plain e))
+      → plain (filled_if_free o (found s e) (filled s e)) ≡ filled_if_free u (found there (plain e)) (filled there (plain e))
   operand_plain o u e same h =
-      settled_if_plain o (found s e) (filled s e)
-      ∙ three settled_if o u (found s e) (found there (plain e)) (plain (filled s e)) (filled there (plain e)) same (sym (found_plain e)) h
+      filled_if_free_plain o (found s e) (filled s e)
+      ∙ three filled_if_free o u (found s e) (found there (plain e)) (plain (filled s e)) (filled there (plain e)) same (sym (found_plain e)) h
 
   mutual
     pub filled_plain : (e : Expr) → plain (filled s e) ≡ filled there (plain e)

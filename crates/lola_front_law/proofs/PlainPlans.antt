@@ -1,10 +1,10 @@
 -- All specifications of declarations, and of a text with kinds filled in, have one plain form.
 use Rattle.std.proofs.Common.{◌≡◌, subst, ℕ, List}
-use Rattle.lola_parser_tree.specs.declared.declarations.Declaration.{Declaration}
+use Rattle.lola_parser_grammar.specs.declared.declarations.Declaration.{Declaration}
 use Rattle.lola_model.specs.declared.spec.Spec.{Spec}
-use Rattle.lola_model_law.specs.Alike.{plain_spec}
 use Rattle.lola_names.specs.Specification.{Resolves}
 use Rattle.lola_front.specs.Front.{IsFull}
+use Rattle.lola_front_law.specs.Alike.{plain_spec}
 use Rattle.lola_front_law.proofs.AlikePlans.{same_windows}
 use Rattle.lola_front_law.proofs.Deciding.{one_reading}
 use Rattle.lola_front_law.proofs.KindLemmas.{specs_alike}

@@ -16,8 +16,8 @@ use Rattle.lola_model.specs.declared.spec.Sort.{Sort}
 use Rattle.lola_model.specs.declared.spec.Spec.{Spec}
 use Rattle.lola_model.specs.declared.spec.Stream.{Stream}
 use Rattle.lola_model.specs.declared.spec.WindowSpec.{WindowSpec}
-use Rattle.lola_model_law.specs.Alike.{plain, plain_all, plain_formula, plain_pace}
 use Rattle.lola_types.specs.Filled.{SameTree, SameArguments, SameFormula, SamePace}
+use Rattle.lola_front_law.specs.Alike.{plain, plain_all, plain_formula, plain_pace}
 use Rattle.lola_front_law.proofs.AlikeKinds.{two, three}
 
 pub four : {A B C D E : Type 0} (f : A → B → C → D → E) (a b : A) (c d : B) (p q : C) (u v : D) → a ≡ b → c ≡ d → p ≡ q → u ≡ v → f a c p u ≡ f b d q v

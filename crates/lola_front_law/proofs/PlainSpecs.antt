@@ -2,7 +2,7 @@
 use Rattle.std.proofs.Common.{◌≡◌, sym, ap, subst, ◌∙◌, ℕ, List, length}
 use Rattle.lola_value.specs.declared.value.Value.{Value}
 use Rattle.lola_value.specs.declared.value.Value.TheVariants as value
-use Rattle.lola_parser_tree.specs.declared.declarations.Declaration.{Declaration}
+use Rattle.lola_parser_grammar.specs.declared.declarations.Declaration.{Declaration}
 use Rattle.lola_model.specs.Named.{counted, literal_text, text_number}
 use Rattle.lola_model.specs.Parts.{listed_streams}
 use Rattle.lola_model.specs.declared.expr.Expr.{Expr}
@@ -11,7 +11,7 @@ use Rattle.lola_model.specs.declared.spec.Spec.{Spec}
 use Rattle.lola_model.specs.declared.spec.WindowSpec.{WindowSpec}
 use Rattle.lola_names.specs.Targets.{targets_of}
 use Rattle.lola_names.specs.Specification.{AreConstants, Resolves, constants_of}
-use Rattle.lola_model_law.specs.Alike.{plain_spec}
+use Rattle.lola_front_law.specs.Alike.{plain_spec}
 use Rattle.lola_front_law.proofs.AlikeListed.{listed_of_streams}
 use Rattle.lola_front_law.proofs.AlikeStreams.{AlikeStreamsBy, streams_alike_by}
 use Rattle.lola_front_law.proofs.AlikeTrees.{SameValueBy, AlikeBy}

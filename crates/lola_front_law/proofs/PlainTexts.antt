@@ -5,9 +5,9 @@ use Rattle.std.proofs.lemmas.Bool.{cases_lt}
 use Rattle.lola_value.specs.declared.value.Kind.{Kind}
 use Rattle.lola_value.specs.declared.value.Value.{Value}
 use Rattle.lola_value.specs.declared.value.Value.TheVariants as value
-use Rattle.lola_parser_tree.specs.declared.literals.Value.{Value as Written}
-use Rattle.lola_parser_tree.specs.declared.literals.Value.TheVariants as written
-use Rattle.lola_parser_tree.specs.declared.declarations.Constant.{Constant as TreeConstant}
+use Rattle.lola_parser_grammar.specs.declared.literals.Value.{Value as Written}
+use Rattle.lola_parser_grammar.specs.declared.literals.Value.TheVariants as written
+use Rattle.lola_parser_grammar.specs.declared.declarations.Constant.{Constant as TreeConstant}
 use Rattle.lola_model.specs.Named.{are_distinct}
 use Rattle.lola_model.specs.declared.spec.Constant.{Constant}
 use Rattle.lola_names.specs.Numbered.{IsInOrder}

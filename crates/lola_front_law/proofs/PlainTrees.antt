@@ -12,7 +12,7 @@ use Rattle.lola_model.specs.declared.expr.Expr.TheVariants.{Literal, Parameter, 
 use Rattle.lola_model.specs.declared.spec.Clause.{Clause}
 use Rattle.lola_model.specs.declared.spec.Stream.{Stream}
 use Rattle.lola_model.specs.declared.spec.WindowSpec.{WindowSpec}
-use Rattle.lola_model_law.specs.Alike.{plain, plain_all, plain_clause, plain_stream}
+use Rattle.lola_front_law.specs.Alike.{plain, plain_all, plain_clause, plain_stream}
 use Rattle.lola_front_law.proofs.AlikeKinds.{two}
 use Rattle.lola_front_law.proofs.AlikeStreams.{AlikeWhenBy, AlikeWithBy, AlikeClausesBy, AlikeStreamBy, AlikeStreamsBy}
 use Rattle.lola_front_law.proofs.AlikeTrees.{SameValueBy, AlikeBy, AlikeAllBy}

@@ -2,7 +2,7 @@
 use Rattle.std.proofs.Common.{ℕ, List, slice_get}
 use Rattle.std.specs.List.{All}
 use Rattle.lola_model.specs.declared.plan.Plan.{Plan}
-use Rattle.lola_report_lines.proofs.LineForms.{verdict_line}
+use Rattle.lola_report.proofs.LineForms.{verdict_line}
 use Rattle.lola_parser_grammar.specs.Whole.{most_levels}
 use Rattle.lola_parser_grammar.specs.Cursor.{lexemes}
 use Rattle.lola_front.specs.Front.{IsPlanOf}

@@ -4,12 +4,12 @@ use Rattle.std.proofs.Math.Nat.{div-mul_cancel}
 use Rattle.lola_value.specs.Ratio.{Ratio}
 use Rattle.lola_value.specs.declared.value.Kind.{Kind}
 use Rattle.lola_value.proofs.Divisors.{lowest_by_gcd, part_positive}
-use Rattle.lola_parser_tree.specs.declared.literals.Typed.{Typed}
-use Rattle.lola_parser_tree.specs.declared.pacing.Rhythm.{Rhythm}
-use Rattle.lola_parser_tree.specs.declared.pacing.Rhythm.TheVariants as r
-use Rattle.lola_parser_tree.specs.declared.pacing.Pacing.{Pacing}
-use Rattle.lola_parser_tree.specs.declared.declarations.Declaration.{Declaration}
-use Rattle.lola_parser_tree.specs.declared.declarations.Declaration.TheVariants as d
+use Rattle.lola_parser_grammar.specs.declared.literals.Typed.{Typed}
+use Rattle.lola_parser_grammar.specs.declared.pacing.Rhythm.{Rhythm}
+use Rattle.lola_parser_grammar.specs.declared.pacing.Rhythm.TheVariants as r
+use Rattle.lola_parser_grammar.specs.declared.pacing.Pacing.{Pacing}
+use Rattle.lola_parser_grammar.specs.declared.declarations.Declaration.{Declaration}
+use Rattle.lola_parser_grammar.specs.declared.declarations.Declaration.TheVariants as d
 use Rattle.lola_model.specs.StepOrder.{IsPositiveRate}
 use Rattle.lola_model.specs.declared.spec.Clause.{Clause}
 use Rattle.lola_model.specs.declared.spec.Pace.{Pace}
@@ -21,7 +21,7 @@ use Rattle.lola_model.specs.declared.spec.WrittenRate.{WrittenRate}
 use Rattle.lola_model.specs.declared.spec.WrittenRate.TheVariants as rate
 use Rattle.lola_names_refused.specs.Quantities.{IsReduced, IsWrittenAs}
 use Rattle.lola_front_law.specs.Rated.{AreRated, IsRatedClause, IsRatedPace, IsRatedWritten}
-use Rattle.lola_names_law.proofs.RatesWritten.{HasDivisor, divisor_by}
+use Rattle.lola_names.proofs.RatesWritten.{HasDivisor, divisor_by}
 use Rattle.lola_names.specs.Clauses.{IsClose, IsEval, IsOptional, IsPace, IsPacing, IsSpawn, IsTriggerClause, input_stream}
 use Rattle.lola_names.specs.Resolved.{Standing}
 use Rattle.lola_names.specs.Specification.{AreStreams}

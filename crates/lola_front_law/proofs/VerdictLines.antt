@@ -15,8 +15,8 @@ use Rattle.lola_model.specs.declared.journal.Show.TheVariants.{Triggers, Outputs
 use Rattle.lola_model.specs.declared.spec.Sort.{Sort}
 use Rattle.lola_model.specs.declared.spec.Sort.TheVariants as sort
 use Rattle.lola_model.specs.declared.spec.Stream.{Stream}
-use Rattle.lola_report_lines.specs.Lines.{IsLine, is_not_lf, has_no_lf, has_plain_name}
-use Rattle.lola_report_lines.proofs.LineForms.{verdict_line}
+use Rattle.lola_report.specs.Lines.{IsLine, is_not_lf, has_no_lf, has_plain_name}
+use Rattle.lola_report.proofs.LineForms.{verdict_line}
 use Rattle.lola_front_law.specs.OneLine.{IsWordStream}
 use Rattle.lola_front_law.proofs.NameTokens.{Word}
 use Rattle.lola_front_law.proofs.DeclaredWords.{Each}

@@ -1,7 +1,7 @@
 -- What a text is, as far as its names: declarations, or a refusal.
 use Rattle.std.specs.Prelude.{ℕ, ◌≡◌, ◌⊎◌, List, []}
 use Rattle.lola_value.specs.declared.front.Refusal.{Refusal}
-use Rattle.lola_parser_tree.specs.declared.declarations.Declaration.{Declaration}
+use Rattle.lola_parser_grammar.specs.declared.declarations.Declaration.{Declaration}
 use Rattle.lola_names_refused.specs.Refused as names
 use Rattle.lola_model.specs.declared.plan.Plan.{Plan}
 use Rattle.lola_front.specs.Front.{IsRead, IsPlanOf, IsTokenRefusal, IsSyntaxRefusal, IsNameRefusal, IsKindRefusal, IsPacingRefusal, IsCycleRefusal}

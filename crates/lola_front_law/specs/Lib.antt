@@ -10,3 +10,8 @@ pub mod Rated
 pub mod Planned
 pub mod PlanTexts
 pub mod Answered
+pub mod Alike
+pub mod Meaning
+pub mod Formula
+pub mod LocalDues
+pub mod LocalRates

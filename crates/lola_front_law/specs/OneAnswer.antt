@@ -2,8 +2,8 @@
 use Rattle.std.specs.Prelude.{ℕ, ◌≡◌, List}
 use Rattle.lola_value.specs.declared.front.Refusal.{Refusal}
 use Rattle.lola_model.specs.declared.plan.Plan.{Plan}
-use Rattle.lola_model_law.specs.Alike.{ArePlansAlike}
-use Rattle.lola_model_law.specs.Meaning.{HaveSameEntries, HaveSameModels, HaveSameVerdicts}
+use Rattle.lola_front_law.specs.Alike.{ArePlansAlike}
+use Rattle.lola_front_law.specs.Meaning.{HaveSameEntries, HaveSameModels, HaveSameVerdicts}
 use Rattle.lola_front.specs.Front.{IsPlanOf, IsRefusalOf}
 
 -- a text that has a plan has no refusal, and its plans differ in addresses alone; one that has a refusal has it alone, whichever phase

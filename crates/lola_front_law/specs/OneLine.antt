@@ -8,8 +8,8 @@ use Rattle.lola_model.specs.Texts.{table_lines}
 use Rattle.lola_model.specs.declared.journal.Show.{Show}
 use Rattle.lola_model.specs.declared.plan.Plan.{Plan}
 use Rattle.lola_model.specs.declared.spec.Stream.{Stream}
-use Rattle.lola_report_lines.specs.Lines.{IsLine}
-use Rattle.lola_report_lines.specs.Verdicts.{HasVerdict, verdict_text}
+use Rattle.lola_report.specs.Lines.{IsLine}
+use Rattle.lola_report.specs.Verdicts.{HasVerdict, verdict_text}
 use Rattle.lola_front.specs.Front.{IsPlanOf}
 
 -- a stream whose name has letters, digits and `_` alone

@@ -1,8 +1,8 @@
 -- What declarations and texts are resolved to differs in addresses alone.
 use Rattle.std.specs.Prelude.{ℕ, List}
-use Rattle.lola_parser_tree.specs.declared.declarations.Declaration.{Declaration}
+use Rattle.lola_parser_grammar.specs.declared.declarations.Declaration.{Declaration}
 use Rattle.lola_model.specs.declared.spec.Spec.{Spec}
-use Rattle.lola_model_law.specs.Alike.{AreSpecsAlike}
+use Rattle.lola_front_law.specs.Alike.{AreSpecsAlike}
 use Rattle.lola_names.specs.Specification.{Resolves}
 use Rattle.lola_types.specs.Filled.{IsFilled}
 use Rattle.lola_front.specs.Front.{IsFull}

@@ -5,10 +5,8 @@ ghost use Rattle.lola_front_law.specs.Answered.{EachTextHasAnAnswer};
 use crate::law::{kinds_are_one, names_are_decided};
 use crate::planned::{each_graph_is_layered, each_is_bounded, each_is_paced};
 use lola_front::law::{filled_is_named, filled_is_typed};
-use lola_names_law::law::{
-    resolved_is_named, resolved_notes_constants, spelled_closes_are_spawned,
-};
-use lola_names_law::resolvable::each_list_is_resolved;
+use lola_names::law::{resolved_is_named, resolved_notes_constants, spelled_closes_are_spawned};
+use lola_names::resolvable::each_list_is_resolved;
 use lola_pacing::law::each_window_is_paced;
 
 /// Each text has a plan or a refusal: where no phase refuses anything, what the next one asks for is there.

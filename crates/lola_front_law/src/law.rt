@@ -9,7 +9,7 @@ ghost use Rattle.lola_front_law.specs.OnePacing.{FindingsAreOne, PacingsAreOne};
 ghost use Rattle.lola_front_law.specs.OneRest.{CyclesAreOne, PlansAreOne};
 ghost use Rattle.lola_front_law.specs.OneSpec.{ResolvedAreAlike, FilledAreAlike, FullAreAlike};
 
-use lola_model_law::alike::{entries_are_same, models_are_same, verdicts_are_same};
+use crate::alike::{entries_are_same, models_are_same, verdicts_are_same};
 
 /// Each text has declarations of whose names nothing is refused, or a refusal for a token, for its grammar or for a name; never
 /// both, and one alone. So a text that is refused so has no plan, and no refusal for kinds, pacings or a cycle.

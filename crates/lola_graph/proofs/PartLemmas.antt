@@ -10,8 +10,8 @@ use Rattle.lola_model.specs.declared.expr.Expr.TheVariants.{Literal, Parameter, 
 use Rattle.lola_model.specs.declared.graph.Edge.{Edge}
 use Rattle.lola_model.specs.declared.spec.Clause.{Clause}
 use Rattle.lola_model.specs.declared.spec.WindowSpec.{WindowSpec}
-use Rattle.lola_model_parts.specs.Reading.{parts_of, TakesAll}
-use Rattle.lola_model_parts.proofs.Fused.{listed_both, gathered}
+use Rattle.lola_model.specs.Visits.{parts_of, TakesAll}
+use Rattle.lola_model.proofs.Fused.{listed_both, gathered}
 use Rattle.lola_graph.specs.Readable.{part_reads}
 
 module _ (ws : List WindowSpec) (from : ℕ) where

@@ -9,9 +9,9 @@ use Rattle.lola_model.specs.declared.spec.Clause.{Clause}
 use Rattle.lola_model.specs.declared.spec.Stream.{Stream}
 use Rattle.lola_model.specs.declared.graph.Edge.{Edge}
 use Rattle.lola_model.specs.declared.spec.WindowSpec.{WindowSpec}
-use Rattle.lola_model_parts.specs.Reading.{parts_pass, arguments_pass, when_passes, clause_passes}
-use Rattle.lola_model_parts.specs.declared.part.ReadPart.{ReadPart}
-use Rattle.lola_model_parts.specs.declared.part.ReadPart.TheVariants.{Read, Window}
+use Rattle.lola_model.specs.Visits.{parts_pass, arguments_pass, when_passes, clause_passes}
+use Rattle.lola_model.specs.declared.part.ReadPart.{ReadPart}
+use Rattle.lola_model.specs.declared.part.ReadPart.TheVariants.{Read, Window}
 use Rattle.lola_graph.specs.Small.{is_small_offset}
 
 -- an access by no more than 4,096 values

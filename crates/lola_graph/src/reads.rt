@@ -9,9 +9,9 @@ ghost use Rattle.lola_graph.specs.Small.{HasSmallOffsets, is_small_graph};
 
 use lola_model::expr::Access;
 use lola_model::graph::{Edge, Edges};
+use lola_model::part::{PartVisitor, ReadPart};
 use lola_model::spec::{Clause, Spec, Stream, WindowSpec};
-use lola_model_parts::part::{PartVisitor, ReadPart};
-use lola_model_parts::walk::visit_clause;
+use lola_model::walk::visit_clause;
 use lola_value::text::Memory;
 use std::alloc::Global;
 

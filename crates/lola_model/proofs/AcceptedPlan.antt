@@ -51,8 +51,8 @@ are_pacings = record {
     spawns = Unpaced ∷ [];
     evals = on_rows ∷ [];
     closes = Unpaced ∷ [];
-    verdicts = [];
-    are = record { are_own = (refl, tt); are_spawns = (refl, tt); are_evals = (refl, tt); are_closes = (refl, tt); are_verdicts = tt };
+    window_refusals = [];
+    are = record { are_own = (refl, tt); are_spawns = (refl, tt); are_evals = (refl, tt); are_closes = (refl, tt); are_window_refusals = tt };
   };
   accepted = refl;
   are = refl;

@@ -48,9 +48,9 @@ abbrev pub is_filtered : Option Stream → Bool
 is_filtered None = false
 is_filtered (Some s) = has_clause s.spawn || has_when s.eval
 
-abbrev pub verdict_refusal : Option Code → ℕ → List Refusal
-verdict_refusal None at = []
-verdict_refusal (Some c) at = record { code = c; at = at } ∷ []
+abbrev pub refusal_of_window : Option Code → ℕ → List Refusal
+refusal_of_window None at = []
+refusal_of_window (Some c) at = record { code = c; at = at } ∷ []
 
 -- of a clause itself
 abbrev pub finding_refusal : FoundPacing → List Refusal
@@ -76,7 +76,7 @@ module _ (streams : List Stream) (evals : List FoundPacing) (verdicts : List (Op
   -- E11 and E14 at a direct access, and what stands against a window
   abbrev pub use_refusals : Use → List Refusal
   use_refusals (OfStream at n) = not_implied own (finding_at evals n) at ++ refusal_where (is_filtered (slice_get streams n)) code.DirectToFiltered at
-  use_refusals (OfWindow at w) = verdict_refusal (unwrap_or (slice_get verdicts w) None) at
+  use_refusals (OfWindow at w) = refusal_of_window (unwrap_or (slice_get verdicts w) None) at
 
   -- of a clause and all parts of its expressions
   abbrev pub clause_refusals : Option Clause → List Refusal

@@ -16,7 +16,7 @@ use Rattle.lola_model.specs.Leaves.{AreLeaves, is_end}
 use Rattle.lola_model.specs.Named.{has_clause}
 use Rattle.lola_model.specs.PacingFound.{AreOwn, IsGiven, IsFound, finding_at, findings_at, no_pacing}
 use Rattle.lola_model.specs.PacingRefused.{clause_refusals}
-use Rattle.lola_model.specs.WindowVerdicts.{IsVerdict}
+use Rattle.lola_model.specs.WindowRefusals.{IsWindowRefusal}
 use Rattle.lola_model.specs.declared.finding.FoundPacing.{FoundPacing}
 use Rattle.lola_model.specs.declared.finding.FoundPacing.TheVariants.{Paced, Refused, Unpaced}
 
@@ -73,19 +73,19 @@ finding_of_part spawns evals closes n part.Eval = finding_at evals n
 finding_of_part spawns evals closes n part.Close = finding_at closes n
 
 -- what stands against each window
-abbrev pub AreVerdicts : List FoundPacing → List FoundPacing → List FoundPacing → List WindowSpec → List (Option Code) → Type 0
-AreVerdicts spawns evals closes [] [] = Unit {0}
-AreVerdicts spawns evals closes [] (v ∷ vs) = ⊥
-AreVerdicts spawns evals closes (w ∷ ws) [] = ⊥
-AreVerdicts spawns evals closes (w ∷ ws) (v ∷ vs) = IsVerdict (finding_of_part spawns evals closes w.stream w.part) w.over v × AreVerdicts spawns evals closes ws vs
+abbrev pub AreWindowRefusals : List FoundPacing → List FoundPacing → List FoundPacing → List WindowSpec → List (Option Code) → Type 0
+AreWindowRefusals spawns evals closes [] [] = Unit {0}
+AreWindowRefusals spawns evals closes [] (v ∷ vs) = ⊥
+AreWindowRefusals spawns evals closes (w ∷ ws) [] = ⊥
+AreWindowRefusals spawns evals closes (w ∷ ws) (v ∷ vs) = IsWindowRefusal (finding_of_part spawns evals closes w.stream w.part) w.over v × AreWindowRefusals spawns evals closes ws vs
 
 -- what is found of all streams' own pacings, of the three clauses of each stream, and what stands against windows
-pub record AreFound (spec : Spec) (owns spawns evals closes : List FoundPacing) (verdicts : List (Option Code)) : Type 0 where
+pub record AreFound (spec : Spec) (owns spawns evals closes : List FoundPacing) (window_refusals : List (Option Code)) : Type 0 where
   pub are_own : AreOwn 0 spec.streams owns
   pub are_spawns : InStep (IsSpawnFound spec.streams owns) 0 spec.streams spawns
   pub are_evals : InStep (IsEvalFound spec.streams owns) 0 spec.streams evals
   pub are_closes : InStep (IsCloseFound spec.streams owns evals) 0 spec.streams closes
-  pub are_verdicts : AreVerdicts spawns evals closes spec.windows verdicts
+  pub are_window_refusals : AreWindowRefusals spawns evals closes spec.windows window_refusals
 
 -- all that the phase finds
 pub record Found (spec : Spec) : Type 0 where
@@ -93,16 +93,16 @@ pub record Found (spec : Spec) : Type 0 where
   pub spawns : List FoundPacing
   pub evals : List FoundPacing
   pub closes : List FoundPacing
-  pub verdicts : List (Option Code)
-  pub are : AreFound spec owns spawns evals closes verdicts
+  pub window_refusals : List (Option Code)
+  pub are : AreFound spec owns spawns evals closes window_refusals
 
-module _ (streams : List Stream) (spawns evals closes : List FoundPacing) (verdicts : List (Option Code)) where
+module _ (streams : List Stream) (spawns evals closes : List FoundPacing) (window_refusals : List (Option Code)) where
   -- the refusals of stream n
   abbrev pub stream_refusals : ℕ → Stream → List Refusal
   stream_refusals n s =
-      clause_refusals streams evals verdicts (finding_at spawns n) s.spawn
-      ++ (clause_refusals streams evals verdicts (finding_at evals n) s.eval
-      ++ clause_refusals streams evals verdicts (finding_at closes n) s.close)
+      clause_refusals streams evals window_refusals (finding_at spawns n) s.spawn
+      ++ (clause_refusals streams evals window_refusals (finding_at evals n) s.eval
+      ++ clause_refusals streams evals window_refusals (finding_at closes n) s.close)
 
   -- of the streams from number n on
   abbrev pub refusals_from : ℕ → List Stream → List Refusal
@@ -111,7 +111,7 @@ module _ (streams : List Stream) (spawns evals closes : List FoundPacing) (verdi
 
 -- all refusals of the phase
 abbrev pub refusals_of : (spec : Spec) → Found spec → List Refusal
-refusals_of spec f = refusals_from spec.streams f.spawns f.evals f.closes f.verdicts 0 spec.streams
+refusals_of spec f = refusals_from spec.streams f.spawns f.evals f.closes f.window_refusals 0 spec.streams
 
 abbrev pub pacing_of : FoundPacing → Option Pacing
 pacing_of (Paced p) = Some p

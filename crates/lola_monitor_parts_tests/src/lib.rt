@@ -1,6 +1,8 @@
-//! Tests of parts of which nothing is claimed, or on which the program does not stand.
+//! Tests of parts of which nothing is claimed, or on which the program does not stand, and of what traces and verdicts are found to be.
 #![tactic(auto)]
 
+#[cfg(test)]
+mod findings;
 #[cfg(test)]
 mod journals;
 #[cfg(test)]

@@ -2,8 +2,8 @@
 
 use lola_lexer::cut::tokens;
 use lola_parser_declarations::reading::parse;
+use lola_parser_grammar::declarations::Ast;
 use lola_parser_print::print;
-use lola_parser_tree::declarations::Ast;
 use lola_value::front::FrontEnd;
 use lola_value::text::Text;
 use std::alloc::Global;

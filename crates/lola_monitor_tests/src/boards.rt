@@ -50,7 +50,7 @@ fn no_waking_is_lost(rt: HostRuntime) -> Result<(), Memory> {
 #[test]
 fn no_ring_is_lost(rt: HostRuntime) -> Result<(), Memory> {
     let board = Board::create(rt.alloc(), 2)?;
-    let bell = board.bell().share()?;
+    let bell = board.bell().another()?;
     for _ in 0..100 {
         bell.ring();
         board.wait_for_rows(&rt);

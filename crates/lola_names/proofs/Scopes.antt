@@ -3,9 +3,9 @@ use Rattle.std.proofs.Common.{◌≡◌, ℕ, ◌+◌, ◌⊎◌, List, [], ◌�
 use Rattle.std.specs.Prelude.{slice_get}
 use Rattle.std.proofs.lemmas.Bool.{cases_Bool}
 use Rattle.lola_value.specs.Arithmetic.{bytes_equal}
-use Rattle.lola_parser_tree.specs.declared.literals.Typed.{Typed}
-use Rattle.lola_parser_tree.specs.declared.declarations.Declaration.{Declaration}
-use Rattle.lola_parser_tree.specs.declared.declarations.Declaration.TheVariants as d
+use Rattle.lola_parser_grammar.specs.declared.literals.Typed.{Typed}
+use Rattle.lola_parser_grammar.specs.declared.declarations.Declaration.{Declaration}
+use Rattle.lola_parser_grammar.specs.declared.declarations.Declaration.TheVariants as d
 use Rattle.lola_names_refused.specs.Table.{meaning_in, hides}
 use Rattle.lola_names.specs.Targets.{Targets, Count, input_targets, parameter_targets, targets_from, counted_with, targets_of}
 use Rattle.lola_names.specs.Tables.{Means}

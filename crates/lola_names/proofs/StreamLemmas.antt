@@ -1,12 +1,12 @@
 -- Streams from their clauses, and the streams of all declarations.
 use Rattle.std.proofs.Common.{◌≡◌, ℕ, zero, suc, ◌+◌, ◌<◌, ◌≤◌, List, [], ◌∷◌, ◌++◌, length, get_or, drop, map, refl, sym, ap, subst, ◌∙◌, append_assoc, append-nil, add-zero, length-append}
-use Rattle.lola_parser_tree.specs.declared.literals.Typed.{Typed}
-use Rattle.lola_parser_tree.specs.declared.declarations.Inputs.{Inputs}
-use Rattle.lola_parser_tree.specs.declared.declarations.Constant.{Constant as TreeConstant}
-use Rattle.lola_parser_tree.specs.declared.declarations.Declaration.{Declaration}
-use Rattle.lola_parser_tree.specs.declared.declarations.Declaration.TheVariants as d
-use Rattle.lola_parser_tree.specs.declared.declarations.Output.{Output}
-use Rattle.lola_parser_tree.specs.declared.declarations.Trigger.{Trigger}
+use Rattle.lola_parser_grammar.specs.declared.literals.Typed.{Typed}
+use Rattle.lola_parser_grammar.specs.declared.declarations.Inputs.{Inputs}
+use Rattle.lola_parser_grammar.specs.declared.declarations.Constant.{Constant as TreeConstant}
+use Rattle.lola_parser_grammar.specs.declared.declarations.Declaration.{Declaration}
+use Rattle.lola_parser_grammar.specs.declared.declarations.Declaration.TheVariants as d
+use Rattle.lola_parser_grammar.specs.declared.declarations.Output.{Output}
+use Rattle.lola_parser_grammar.specs.declared.declarations.Trigger.{Trigger}
 use Rattle.lola_model.specs.Parts.{listed_streams}
 use Rattle.lola_model.specs.Named.{window_number, literal_text}
 use Rattle.lola_model.specs.declared.expr.Expr.{Expr}

@@ -9,3 +9,5 @@ pub mod Made
 pub mod Parted
 pub mod Making
 pub mod Ranged
+pub mod Meant
+pub mod Resolvable

@@ -1,11 +1,11 @@
 -- What is made while expressions are resolved: texts and windows, each with its number.
 use Rattle.std.specs.Prelude.{ℕ, ◌≡◌, List, ◌++◌, Option, Some, length, slice_get}
-use Rattle.lola_parser_tree.specs.declared.declarations.Declaration.{Declaration}
-use Rattle.lola_parser_tree.specs.declared.declarations.Declaration.TheVariants as d
-use Rattle.lola_parser_tree.specs.declared.expressions.Expr.{Expr as TreeExpr}
-use Rattle.lola_parser_tree.specs.declared.pacing.Formula.{Formula as TreeFormula}
-use Rattle.lola_parser_tree.specs.declared.pacing.Rhythm.{Rhythm}
-use Rattle.lola_parser_tree.specs.declared.pacing.Pacing.{Pacing}
+use Rattle.lola_parser_grammar.specs.declared.declarations.Declaration.{Declaration}
+use Rattle.lola_parser_grammar.specs.declared.declarations.Declaration.TheVariants as d
+use Rattle.lola_parser_grammar.specs.declared.expressions.Expr.{Expr as TreeExpr}
+use Rattle.lola_parser_grammar.specs.declared.pacing.Formula.{Formula as TreeFormula}
+use Rattle.lola_parser_grammar.specs.declared.pacing.Rhythm.{Rhythm}
+use Rattle.lola_parser_grammar.specs.declared.pacing.Pacing.{Pacing}
 use Rattle.lola_model.specs.Parts.{listed}
 use Rattle.lola_model.specs.Named.{counted, window_number, literal_text}
 use Rattle.lola_model.specs.declared.expr.Expr.{Expr}

@@ -1,15 +1,15 @@
 -- Clauses and streams that are made while texts and windows grow.
 use Rattle.std.specs.Prelude.{ℕ, ◌≡◌, ◌+◌, List, [], ◌∷◌, ◌++◌, Option, Some, None, length, map}
-use Rattle.lola_parser_tree.specs.declared.literals.Typed.{Typed}
-use Rattle.lola_parser_tree.specs.declared.pacing.Pacing.{Pacing}
-use Rattle.lola_parser_tree.specs.declared.clauses.Part.{Part as TreePart}
-use Rattle.lola_parser_tree.specs.declared.clauses.Spawn.{Spawn}
-use Rattle.lola_parser_tree.specs.declared.clauses.Eval.{Eval}
-use Rattle.lola_parser_tree.specs.declared.clauses.Close.{Close}
-use Rattle.lola_parser_tree.specs.declared.declarations.Declaration.{Declaration}
-use Rattle.lola_parser_tree.specs.declared.declarations.Declaration.TheVariants as d
-use Rattle.lola_parser_tree.specs.declared.declarations.Output.{Output}
-use Rattle.lola_parser_tree.specs.declared.declarations.Trigger.{Trigger}
+use Rattle.lola_parser_grammar.specs.declared.literals.Typed.{Typed}
+use Rattle.lola_parser_grammar.specs.declared.pacing.Pacing.{Pacing}
+use Rattle.lola_parser_grammar.specs.declared.clauses.Part.{Part as TreePart}
+use Rattle.lola_parser_grammar.specs.declared.clauses.Spawn.{Spawn}
+use Rattle.lola_parser_grammar.specs.declared.clauses.Eval.{Eval}
+use Rattle.lola_parser_grammar.specs.declared.clauses.Close.{Close}
+use Rattle.lola_parser_grammar.specs.declared.declarations.Declaration.{Declaration}
+use Rattle.lola_parser_grammar.specs.declared.declarations.Declaration.TheVariants as d
+use Rattle.lola_parser_grammar.specs.declared.declarations.Output.{Output}
+use Rattle.lola_parser_grammar.specs.declared.declarations.Trigger.{Trigger}
 use Rattle.lola_model.specs.Parts.{listed_when, listed_with, listed_clause, listed_stream, listed_streams}
 use Rattle.lola_model.specs.Named.{counted, window_number, literal_text}
 use Rattle.lola_model.specs.declared.expr.Expr.{Expr}

@@ -1,9 +1,9 @@
 -- The steps of resolving an expression.
 use Rattle.std.specs.Prelude.{ℕ, ◌≡◌, List, [], ◌∷◌, Option, Some, false, slice_get}
-use Rattle.lola_parser_tree.specs.declared.literals.Name.{Name}
-use Rattle.lola_parser_tree.specs.declared.declarations.Declaration.{Declaration}
-use Rattle.lola_parser_tree.specs.declared.expressions.Access.{Access as TreeAccess}
-use Rattle.lola_parser_tree.specs.declared.expressions.Expr.{Expr as TreeExpr}
+use Rattle.lola_parser_grammar.specs.declared.literals.Name.{Name}
+use Rattle.lola_parser_grammar.specs.declared.declarations.Declaration.{Declaration}
+use Rattle.lola_parser_grammar.specs.declared.expressions.Access.{Access as TreeAccess}
+use Rattle.lola_parser_grammar.specs.declared.expressions.Expr.{Expr as TreeExpr}
 use Rattle.lola_model.specs.Parts.{listed, listed_with}
 use Rattle.lola_model.specs.Named.{window_number, literal_text}
 use Rattle.lola_model.specs.declared.expr.Expr.{Expr}

@@ -1,7 +1,7 @@
 -- The places of what is out of range, declaration by declaration.
 use Rattle.std.specs.Prelude.{ℕ, List, [], ◌∷◌, length, drop}
-use Rattle.lola_parser_tree.specs.declared.declarations.Declaration.{Declaration}
-use Rattle.lola_parser_tree.specs.declared.declarations.Declaration.TheVariants as d
+use Rattle.lola_parser_grammar.specs.declared.declarations.Declaration.{Declaration}
+use Rattle.lola_parser_grammar.specs.declared.declarations.Declaration.TheVariants as d
 use Rattle.lola_model.specs.declared.spec.Stream.{Stream}
 use Rattle.lola_names.specs.Specification.{output_ranges, trigger_ranges}
 

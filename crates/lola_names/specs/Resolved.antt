@@ -4,19 +4,19 @@ use Rattle.lola_value.specs.declared.value.Kind.{Kind}
 use Rattle.lola_value.specs.declared.value.Kind.TheVariants as kind
 use Rattle.lola_value.specs.declared.value.Value.{Value}
 use Rattle.lola_value.specs.declared.value.Value.TheVariants as value
-use Rattle.lola_parser_tree.specs.declared.literals.Value.{Value as Written}
-use Rattle.lola_parser_tree.specs.declared.literals.Value.TheVariants as written
-use Rattle.lola_parser_tree.specs.declared.literals.Name.{Name}
-use Rattle.lola_parser_tree.specs.declared.declarations.Declaration.{Declaration}
-use Rattle.lola_parser_tree.specs.declared.declarations.Declaration.TheVariants as d
-use Rattle.lola_parser_tree.specs.declared.expressions.Access.{Access as TreeAccess}
-use Rattle.lola_parser_tree.specs.declared.expressions.Access.TheVariants as a
-use Rattle.lola_parser_tree.specs.declared.expressions.Prefix.{Prefix as TreePrefix}
-use Rattle.lola_parser_tree.specs.declared.expressions.Prefix.TheVariants as p
-use Rattle.lola_parser_tree.specs.declared.expressions.Binary.{Binary as TreeBinary}
-use Rattle.lola_parser_tree.specs.declared.expressions.Binary.TheVariants as b
-use Rattle.lola_parser_tree.specs.declared.expressions.Expr.{Expr as TreeExpr, Row_of-Expr, more_of-Expr, end_of-Expr}
-use Rattle.lola_parser_tree.specs.declared.expressions.Expr.TheVariants as e
+use Rattle.lola_parser_grammar.specs.declared.literals.Value.{Value as Written}
+use Rattle.lola_parser_grammar.specs.declared.literals.Value.TheVariants as written
+use Rattle.lola_parser_grammar.specs.declared.literals.Name.{Name}
+use Rattle.lola_parser_grammar.specs.declared.declarations.Declaration.{Declaration}
+use Rattle.lola_parser_grammar.specs.declared.declarations.Declaration.TheVariants as d
+use Rattle.lola_parser_grammar.specs.declared.expressions.Access.{Access as TreeAccess}
+use Rattle.lola_parser_grammar.specs.declared.expressions.Access.TheVariants as a
+use Rattle.lola_parser_grammar.specs.declared.expressions.Prefix.{Prefix as TreePrefix}
+use Rattle.lola_parser_grammar.specs.declared.expressions.Prefix.TheVariants as p
+use Rattle.lola_parser_grammar.specs.declared.expressions.Binary.{Binary as TreeBinary}
+use Rattle.lola_parser_grammar.specs.declared.expressions.Binary.TheVariants as b
+use Rattle.lola_parser_grammar.specs.declared.expressions.Expr.{Expr as TreeExpr, Row_of-Expr, more_of-Expr, end_of-Expr}
+use Rattle.lola_parser_grammar.specs.declared.expressions.Expr.TheVariants as e
 use Rattle.lola_model.specs.declared.expr.Place.{Place}
 use Rattle.lola_model.specs.declared.expr.Access.{Access}
 use Rattle.lola_model.specs.declared.expr.Access.TheVariants as access

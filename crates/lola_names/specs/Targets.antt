@@ -1,9 +1,9 @@
 -- What names stand for, by numbers: streams in the order of the text, inputs counted by themselves too, constants by their places
 -- among the declarations, parameters by their places.
 use Rattle.std.specs.Prelude.{ℕ, ◌+◌, List, [], ◌∷◌, ◌++◌, Option, length}
-use Rattle.lola_parser_tree.specs.declared.literals.Typed.{Typed}
-use Rattle.lola_parser_tree.specs.declared.declarations.Declaration.{Declaration}
-use Rattle.lola_parser_tree.specs.declared.declarations.Declaration.TheVariants as d
+use Rattle.lola_parser_grammar.specs.declared.literals.Typed.{Typed}
+use Rattle.lola_parser_grammar.specs.declared.declarations.Declaration.{Declaration}
+use Rattle.lola_parser_grammar.specs.declared.declarations.Declaration.TheVariants as d
 use Rattle.lola_names_refused.specs.Table.{meant}
 use Rattle.lola_names.specs.declared.targets.Target.{Target}
 use Rattle.lola_names.specs.declared.targets.Target.TheVariants as target

@@ -8,8 +8,8 @@ ghost use Rattle.lola_names.specs.Made.{IsFormulaBy, IsPaceBy, IsPacingBy};
 use crate::targets::{Target, TargetTable};
 use lola_model::spec::{Formula, Pace};
 use lola_names_refused::quantities::rate;
-use lola_parser_tree::literals::Name;
-use lola_parser_tree::pacing::{self as tree, Pacing, Rhythm};
+use lola_parser_grammar::literals::Name;
+use lola_parser_grammar::pacing::{self as tree, Pacing, Rhythm};
 use lola_value::text::Memory;
 use std::alloc::Global;
 

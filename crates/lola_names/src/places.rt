@@ -7,9 +7,9 @@ ghost use Rattle.lola_names.specs.Ranged.{first_ranges, streams_behind};
 
 use crate::ranges::{pacing_ranges, part_ranges};
 use lola_model::spec::{Clause, Pace, Places, Stream};
-use lola_parser_tree::clauses::{Close, Eval, Part, Spawn};
-use lola_parser_tree::declarations::{Declaration, Output, Trigger};
-use lola_parser_tree::pacing::Pacing;
+use lola_parser_grammar::clauses::{Close, Eval, Part, Spawn};
+use lola_parser_grammar::declarations::{Declaration, Output, Trigger};
+use lola_parser_grammar::pacing::Pacing;
 use lola_value::text::Memory;
 use std::alloc::Global;
 

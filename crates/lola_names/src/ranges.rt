@@ -6,10 +6,10 @@ ghost use Rattle.lola_names.specs.Specification as range;
 
 use lola_model::spec::{Pace, Places, WrittenRate};
 use lola_names_refused::quantities::span;
-use lola_parser_tree::clauses::Part;
-use lola_parser_tree::expressions::{Access, Expr};
-use lola_parser_tree::literals::Quantity;
-use lola_parser_tree::pacing::{Pacing, Rhythm};
+use lola_parser_grammar::clauses::Part;
+use lola_parser_grammar::expressions::{Access, Expr};
+use lola_parser_grammar::literals::Quantity;
+use lola_parser_grammar::pacing::{Pacing, Rhythm};
 use lola_value::text::Memory;
 
 fn access_ranges(how: &Access, to: &mut Places) -> Result<(), Memory>

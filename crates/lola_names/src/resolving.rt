@@ -14,7 +14,7 @@ use crate::streams::streams;
 use crate::targets::targets;
 use lola_model::spec::{Constants, Places, Spec, Streams, Texts, Windows};
 use lola_names_refused::name_refusal;
-use lola_parser_tree::declarations::{Ast, Declaration};
+use lola_parser_grammar::declarations::{Ast, Declaration};
 use lola_value::front::FrontEnd;
 use lola_value::text::Memory;
 use std::alloc::Global;

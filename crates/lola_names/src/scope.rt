@@ -2,7 +2,7 @@
 
 use crate::targets::TargetTable;
 use lola_model::spec::Part;
-use lola_parser_tree::declarations::Declaration;
+use lola_parser_grammar::declarations::Declaration;
 
 /// Where an expression stands: in a clause of a stream, in the scope of these names and parameters.
 #[derive(Clone, Copy)]

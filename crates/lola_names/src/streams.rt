@@ -10,8 +10,8 @@ use crate::made::Made;
 use crate::outputs::{input, output, trigger};
 use crate::targets::TargetTable;
 use lola_model::spec::Streams;
-use lola_parser_tree::declarations::Declaration;
-use lola_parser_tree::literals::Typed;
+use lola_parser_grammar::declarations::Declaration;
+use lola_parser_grammar::literals::Typed;
 use lola_value::text::Memory;
 use std::alloc::Global;
 

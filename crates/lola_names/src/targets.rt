@@ -5,8 +5,8 @@ ghost use Rattle.lola_names.specs.Targets.{targets_of, targets_with, counted_wit
 ghost use Rattle.lola_names.specs.Tables.{PutsBehind, Means, count_of};
 
 use lola_names_refused::table::NameTable;
-use lola_parser_tree::declarations::Declaration;
-use lola_parser_tree::literals::{Name, Typed};
+use lola_parser_grammar::declarations::Declaration;
+use lola_parser_grammar::literals::{Name, Typed};
 use lola_value::text::Memory;
 use std::alloc::Global;
 

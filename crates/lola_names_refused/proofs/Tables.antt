@@ -4,7 +4,7 @@ use Rattle.std.specs.Prelude.{if◌then◌else◌}
 use Rattle.std.proofs.lemmas.Bool.{cases_Bool, false≢true}
 use Rattle.lola_value.specs.Arithmetic.{bytes_equal}
 use Rattle.lola_model.proofs.Lookups.{bytes_equal-true}
-use Rattle.lola_parser_tree.specs.declared.literals.Name.{Name}
+use Rattle.lola_parser_grammar.specs.declared.literals.Name.{Name}
 use Rattle.lola_names_refused.specs.Table.{meaning_in, hides, with_name}
 
 module _ {M : Type 0} where

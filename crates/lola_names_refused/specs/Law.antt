@@ -1,7 +1,7 @@
 -- What the names of a specification mean, in short: a name means what its first declaration says.
 use Rattle.std.specs.Prelude.{ℕ, ◌≡◌, List, map}
 use Rattle.std.specs.List.{flat_map}
-use Rattle.lola_parser_tree.specs.declared.declarations.Declaration.{Declaration}
+use Rattle.lola_parser_grammar.specs.declared.declarations.Declaration.{Declaration}
 use Rattle.lola_names_refused.specs.Table.{meaning_in}
 use Rattle.lola_names_refused.specs.Known.{Known, Declared, declared, names_of}
 

@@ -3,9 +3,9 @@ use Rattle.std.specs.Prelude.{ℕ, ◌*◌, ◌/◌, ◌%◌, ◌^◌, ◌<◌, 
 use Rattle.lola_value.specs.Ratio.{Ratio}
 use Rattle.lola_value.specs.Rate.{IsLowest, period_over}
 use Rattle.lola_value.specs.Times.{latest}
-use Rattle.lola_parser_tree.specs.declared.literals.Quantity.{Quantity}
-use Rattle.lola_parser_tree.specs.declared.literals.QuantityUnit.{QuantityUnit}
-use Rattle.lola_parser_tree.specs.declared.literals.QuantityUnit.TheVariants as unit
+use Rattle.lola_parser_grammar.specs.declared.literals.Quantity.{Quantity}
+use Rattle.lola_parser_grammar.specs.declared.literals.QuantityUnit.{QuantityUnit}
+use Rattle.lola_parser_grammar.specs.declared.literals.QuantityUnit.TheVariants as unit
 use Rattle.lola_model.specs.declared.spec.WrittenRate.{WrittenRate}
 use Rattle.lola_model.specs.declared.spec.WrittenRate.TheVariants as rate
 

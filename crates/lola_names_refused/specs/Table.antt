@@ -1,7 +1,7 @@
 -- Names, each with what it means.
 use Rattle.std.specs.Prelude.{ℕ, List, [], ◌∷◌, ◌++◌, Option, Some, None, if◌then◌else◌, is_some}
 use Rattle.lola_value.specs.Arithmetic.{bytes_equal}
-use Rattle.lola_parser_tree.specs.declared.literals.Name.{Name}
+use Rattle.lola_parser_grammar.specs.declared.literals.Name.{Name}
 
 -- what a name means; of several entries the first counts
 abbrev pub meaning_in : {M : Type 0} → List (List ℕ × M) → List ℕ → Option M

@@ -2,7 +2,7 @@
 
 ghost use Rattle.std.specs.Prelude.{◌≡◌, [], OnOk, IfOk, is_some, map};
 ghost use Rattle.lola_value.specs.declared.front.Code.TheVariants as code;
-ghost use Rattle.lola_parser_tree.specs.declared.literals.Typed.{Typed as TypedValue};
+ghost use Rattle.lola_parser_grammar.specs.declared.literals.Typed.{Typed as TypedValue};
 ghost use Rattle.lola_names_refused.specs.declared.names.Meaning.TheVariants as is;
 ghost use Rattle.lola_names_refused.specs.Noted.{Finds};
 ghost use Rattle.lola_names_refused.specs.Table.{meant, meaning_in, with_name};
@@ -11,8 +11,8 @@ ghost use Rattle.lola_names_refused.specs.Refused.{where_, repeated, repeated_pa
 
 use crate::names::{Meaning, Names};
 use lola_model::refusals::Refusals;
-use lola_parser_tree::declarations::Declaration;
-use lola_parser_tree::literals::{Name, Typed};
+use lola_parser_grammar::declarations::Declaration;
+use lola_parser_grammar::literals::{Name, Typed};
 use lola_value::front::Code;
 use lola_value::text::Memory;
 use std::alloc::Global;

@@ -5,7 +5,7 @@ ghost use Rattle.lola_value.specs.Rate.{IsLowest};
 ghost use Rattle.lola_names_refused.specs.Quantities as quantity;
 
 use lola_model::spec::WrittenRate;
-use lola_parser_tree::literals::{Quantity, QuantityUnit};
+use lola_parser_grammar::literals::{Quantity, QuantityUnit};
 use lola_value::rate::{Rate, wide_gcd};
 
 // One more than the greatest number of 18 digits, which is the greatest numerator of a rate too.

@@ -4,7 +4,7 @@ ghost use Rattle.std.specs.Prelude.{◌≡◌, [], OnOk};
 ghost use Rattle.lola_names_refused.specs.Table.{meaning_in, with_name};
 
 use indexmap::IndexMap;
-use lola_parser_tree::literals::Name;
+use lola_parser_grammar::literals::Name;
 use lola_value::text::Memory;
 use std::alloc::Global;
 use std::marker::Model;

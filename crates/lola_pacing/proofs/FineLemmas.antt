@@ -11,7 +11,7 @@ use Rattle.lola_model.specs.declared.spec.Clause.{Clause}
 use Rattle.lola_model.specs.declared.spec.Stream.{Stream}
 use Rattle.lola_model.specs.PacingFound.{finding_at}
 use Rattle.lola_pacing.specs.Laws.{IsFine, AcceptsFine}
-use Rattle.lola_model.specs.PacingRefused.{does_imply, not_implied, refusal_where, verdict_refusal, is_filtered, used, use_refusals, finding_refusal, clause_refusals}
+use Rattle.lola_model.specs.PacingRefused.{does_imply, not_implied, refusal_where, refusal_of_window, is_filtered, used, use_refusals, finding_refusal, clause_refusals}
 use Rattle.lola_model.specs.declared.finding.FoundPacing.{FoundPacing}
 use Rattle.lola_model.specs.declared.finding.FoundPacing.TheVariants.{Paced, Refused, Unpaced}
 use Rattle.lola_model.specs.declared.uses.Use.{Use}
@@ -45,33 +45,33 @@ implied own read at h p q e f =
     let both : not_implied (Paced p) (Paced q) at ≡ [] = subst (λ (x : FoundPacing). not_implied (Paced p) x at ≡ []) f first in
     (told p q).0 (is_implied (does_imply p q) (record { code = code.NotImplied; at = at }) both)
 
-no_verdict : (v : Option Code) (at : ℕ) → verdict_refusal v at ≡ [] → v ≡ None
-no_verdict None at h = refl
-no_verdict (Some c) at h = absurd (cc)
+no_window_refusal : (v : Option Code) (at : ℕ) → refusal_of_window v at ≡ [] → v ≡ None
+no_window_refusal None at h = refl
+no_window_refusal (Some c) at h = absurd (cc)
 
 not_refused : (own : FoundPacing) → finding_refusal own ≡ [] → (r : Refusal) → own ≢ Refused r
 not_refused (Paced p) h r e = absurd (cc)
 not_refused (Refused q) h r e = absurd (cc)
 not_refused Unpaced h r e = absurd (cc)
 
-module _ (streams : List Stream) (evals : List FoundPacing) (verdicts : List (Option Code)) (own : FoundPacing) where
-  fine_use : (u : Use) → use_refusals streams evals verdicts own u ≡ [] → IsFine streams evals verdicts own u
+module _ (streams : List Stream) (evals : List FoundPacing) (window_refusals : List (Option Code)) (own : FoundPacing) where
+  fine_use : (u : Use) → use_refusals streams evals window_refusals own u ≡ [] → IsFine streams evals window_refusals own u
   fine_use (OfStream at n) h =
       let a = not_implied own (finding_at evals n) at in
       let b = refusal_where (is_filtered (slice_get streams n)) code.DirectToFiltered at in
       (implied own (finding_at evals n) at (empty_left a b h), is_no (is_filtered (slice_get streams n)) code.DirectToFiltered at (empty_right a b h))
-  fine_use (OfWindow at w) h = no_verdict (unwrap_or (slice_get verdicts w) None) at h
+  fine_use (OfWindow at w) h = no_window_refusal (unwrap_or (slice_get window_refusals w) None) at h
 
-  all_fine : (clause : Option Clause) → clause_refusals streams evals verdicts own clause ≡ [] → (u : Use) → Contains (listed_clause used clause) u → IsFine streams evals verdicts own u
+  all_fine : (clause : Option Clause) → clause_refusals streams evals window_refusals own clause ≡ [] → (u : Use) → Contains (listed_clause used clause) u → IsFine streams evals window_refusals own u
   all_fine clause h u c =
-      let rest = empty_right (finding_refusal own) (flat_map (use_refusals streams evals verdicts own) (listed_clause used clause)) h in
-      fine_use u (flat_empty (use_refusals streams evals verdicts own) (listed_clause used clause) c.0 u rest c.1 c.2)
+      let rest = empty_right (finding_refusal own) (flat_map (use_refusals streams evals window_refusals own) (listed_clause used clause)) h in
+      fine_use u (flat_empty (use_refusals streams evals window_refusals own) (listed_clause used clause) c.0 u rest c.1 c.2)
 
-  own_found : (clause : Option Clause) → clause_refusals streams evals verdicts own clause ≡ [] → (r : Refusal) → own ≢ Refused r
-  own_found clause h r = not_refused own (empty_left (finding_refusal own) (flat_map (use_refusals streams evals verdicts own) (listed_clause used clause)) h) r
+  own_found : (clause : Option Clause) → clause_refusals streams evals window_refusals own clause ≡ [] → (r : Refusal) → own ≢ Refused r
+  own_found clause h r = not_refused own (empty_left (finding_refusal own) (flat_map (use_refusals streams evals window_refusals own) (listed_clause used clause)) h) r
 
 pub accepts_fine : AcceptsFine
 accepts_fine = record {
-  fine = λ streams evals verdicts own clause h u c. all_fine streams evals verdicts own clause h u c;
-  found = λ streams evals verdicts own clause h r. own_found streams evals verdicts own clause h r;
+  fine = λ streams evals window_refusals own clause h u c. all_fine streams evals window_refusals own clause h u c;
+  found = λ streams evals window_refusals own clause h r. own_found streams evals window_refusals own clause h r;
 }

@@ -6,7 +6,7 @@ use Rattle.lola_model.specs.declared.spec.Stream.{Stream}
 use Rattle.lola_model.specs.declared.spec.WindowSpec.{WindowSpec}
 use Rattle.lola_model.specs.PacingFound.{AreOwn}
 use Rattle.lola_model.specs.declared.finding.FoundPacing.{FoundPacing}
-use Rattle.lola_model.specs.Pacings.{InStep, AreVerdicts}
+use Rattle.lola_model.specs.Pacings.{InStep, AreWindowRefusals}
 use Rattle.lola_pacing.specs.Steps.{Grows, GrowsOwn}
 
 append_none : {X : Type 0} (xs : List X) → xs ++ [] ≡ xs
@@ -22,9 +22,9 @@ pub grown_own : (all ss : List Stream) (i n : ℕ) (made : List FoundPacing) →
 grown_own all ss i n made e g =
     subst (λ (fs : List FoundPacing). AreOwn 0 all fs) (append_none made) (g [] (subst (λ (ts : List Stream). AreOwn n ts []) (sym (drop_all i ss (omega arith))) tt))
 
-pub verdicts_all : (spawns evals closes : List FoundPacing) (all ws : List WindowSpec) (i : ℕ) (made : List (Option Code)) → i ≡ length ws
-    → ((rest : List (Option Code)) → AreVerdicts spawns evals closes (drop i ws) rest → AreVerdicts spawns evals closes all (made ++ rest))
-    → AreVerdicts spawns evals closes all made
-verdicts_all spawns evals closes all ws i made e g =
-    subst (λ (vs : List (Option Code)). AreVerdicts spawns evals closes all vs) (append_none made)
-    (g [] (subst (λ (vs : List WindowSpec). AreVerdicts spawns evals closes vs []) (sym (drop_all i ws (omega arith))) tt))
+pub window_refusals_all : (spawns evals closes : List FoundPacing) (all ws : List WindowSpec) (i : ℕ) (made : List (Option Code)) → i ≡ length ws
+    → ((rest : List (Option Code)) → AreWindowRefusals spawns evals closes (drop i ws) rest → AreWindowRefusals spawns evals closes all (made ++ rest))
+    → AreWindowRefusals spawns evals closes all made
+window_refusals_all spawns evals closes all ws i made e g =
+    subst (λ (vs : List (Option Code)). AreWindowRefusals spawns evals closes all vs) (append_none made)
+    (g [] (subst (λ (vs : List WindowSpec). AreWindowRefusals spawns evals closes vs []) (sym (drop_all i ws (omega arith))) tt))

@@ -142,32 +142,32 @@ range_at p (t ∷ ts) zero s h e =
     subst (λ (x : Stream). p x ≡ true) same (first_true (p t) (all_streams p ts) h)
 range_at p (t ∷ ts) (suc k) s h e = range_at p ts k s (second_true (p t) (all_streams p ts) h) e
 
-module _ (streams : List Stream) (spawns evals closes : List FoundPacing) (verdicts : List (Option Code)) where
-  refusals_at : (n : ℕ) (ss : List Stream) (k : ℕ) (s : Stream) (m : ℕ) → m ≡ n + k → refusals_from streams spawns evals closes verdicts n ss ≡ []
-      → slice_get ss k ≡ Some s → stream_refusals streams spawns evals closes verdicts m s ≡ []
+module _ (streams : List Stream) (spawns evals closes : List FoundPacing) (window_refusals : List (Option Code)) where
+  refusals_at : (n : ℕ) (ss : List Stream) (k : ℕ) (s : Stream) (m : ℕ) → m ≡ n + k → refusals_from streams spawns evals closes window_refusals n ss ≡ []
+      → slice_get ss k ≡ Some s → stream_refusals streams spawns evals closes window_refusals m s ≡ []
   refusals_at n [] k s m q h e = absurd (cc)
   refusals_at n (t ∷ ts) zero s m q h e =
       let here : Some t ≡ Some s = e in
       let same : t ≡ s = cc in
       let at : n ≡ m = omega arith in
-      let first = empty_left (stream_refusals streams spawns evals closes verdicts n t) (refusals_from streams spawns evals closes verdicts (n + 1) ts) h in
-      subst (λ (x : ℕ). stream_refusals streams spawns evals closes verdicts x s ≡ []) at (subst (λ (x : Stream). stream_refusals streams spawns evals closes verdicts n x ≡ []) same first)
+      let first = empty_left (stream_refusals streams spawns evals closes window_refusals n t) (refusals_from streams spawns evals closes window_refusals (n + 1) ts) h in
+      subst (λ (x : ℕ). stream_refusals streams spawns evals closes window_refusals x s ≡ []) at (subst (λ (x : Stream). stream_refusals streams spawns evals closes window_refusals n x ≡ []) same first)
   refusals_at n (t ∷ ts) (suc k) s m q h e =
-      refusals_at (n + 1) ts k s m (omega arith) (empty_right (stream_refusals streams spawns evals closes verdicts n t) (refusals_from streams spawns evals closes verdicts (n + 1) ts) h) e
+      refusals_at (n + 1) ts k s m (omega arith) (empty_right (stream_refusals streams spawns evals closes window_refusals n t) (refusals_from streams spawns evals closes window_refusals (n + 1) ts) h) e
 
 module _ (spec : Spec) (f : Found spec) (range : all_streams is_stream_paced_in_range spec.streams ≡ true) (accepted : refusals_of spec f ≡ []) where
   abbrev streams : List Stream
   streams = spec.streams
 
   abbrev of_clause : FoundPacing → Option Clause → List Refusal
-  of_clause own c = clause_refusals spec.streams f.evals f.verdicts own c
+  of_clause own c = clause_refusals spec.streams f.evals f.window_refusals own c
 
-  pub here : (n : ℕ) (s : Stream) → slice_get spec.streams n ≡ Some s → stream_refusals spec.streams f.spawns f.evals f.closes f.verdicts n s ≡ []
-  here n s e = refusals_at spec.streams f.spawns f.evals f.closes f.verdicts 0 spec.streams n s n (omega arith) accepted e
+  pub here : (n : ℕ) (s : Stream) → slice_get spec.streams n ≡ Some s → stream_refusals spec.streams f.spawns f.evals f.closes f.window_refusals n s ≡ []
+  here n s e = refusals_at spec.streams f.spawns f.evals f.closes f.window_refusals 0 spec.streams n s n (omega arith) accepted e
 
   spawn_kept : (n : ℕ) (s : Stream) → slice_get spec.streams n ≡ Some s → IsNotRefused (finding_at f.spawns n)
   spawn_kept n s e =
-      accepts_fine.found spec.streams f.evals f.verdicts (finding_at f.spawns n) s.spawn
+      accepts_fine.found spec.streams f.evals f.window_refusals (finding_at f.spawns n) s.spawn
       (empty_left (of_clause (finding_at f.spawns n) s.spawn) (of_clause (finding_at f.evals n) s.eval ++ of_clause (finding_at f.closes n) s.close) (here n s e))
 
   pub later : (n : ℕ) (s : Stream) → slice_get spec.streams n ≡ Some s → (of_clause (finding_at f.evals n) s.eval ++ of_clause (finding_at f.closes n) s.close) ≡ []
@@ -175,12 +175,12 @@ module _ (spec : Spec) (f : Found spec) (range : all_streams is_stream_paced_in_
 
   eval_kept : (n : ℕ) (s : Stream) → slice_get spec.streams n ≡ Some s → IsNotRefused (finding_at f.evals n)
   eval_kept n s e =
-      accepts_fine.found spec.streams f.evals f.verdicts (finding_at f.evals n) s.eval
+      accepts_fine.found spec.streams f.evals f.window_refusals (finding_at f.evals n) s.eval
       (empty_left (of_clause (finding_at f.evals n) s.eval) (of_clause (finding_at f.closes n) s.close) (later n s e))
 
   close_kept : (n : ℕ) (s : Stream) → slice_get spec.streams n ≡ Some s → IsNotRefused (finding_at f.closes n)
   close_kept n s e =
-      accepts_fine.found spec.streams f.evals f.verdicts (finding_at f.closes n) s.close
+      accepts_fine.found spec.streams f.evals f.window_refusals (finding_at f.closes n) s.close
       (empty_right (of_clause (finding_at f.evals n) s.eval) (of_clause (finding_at f.closes n) s.close) (later n s e))
 
   ranges : (n : ℕ) (s : Stream) → slice_get spec.streams n ≡ Some s → is_stream_paced_in_range s ≡ true

@@ -5,7 +5,7 @@ use Rattle.lola_model.specs.Leaves.{followed_by, followed}
 use Rattle.lola_model.specs.PacingRefused.{access_use, used}
 use Rattle.lola_model.specs.declared.expr.Expr.{Expr}
 use Rattle.lola_model.specs.declared.expr.Expr.TheVariants.{Literal, Parameter, Read, Window, Defaults', Unary', Both', Choice'}
-use Rattle.lola_model_parts.specs.Reading.{parts_of}
+use Rattle.lola_model.specs.Visits.{parts_of}
 use Rattle.lola_pacing.specs.Reading.{followed_part, used_part}
 
 pub followed_each : (e : Expr) → flat_map followed_part (parts_of e) ≡ followed e

@@ -35,7 +35,7 @@ nothing_found list e = subst (λ (o : Option Refusal). IsFirstOf list o) e (mean
 
 module _ (spec : Spec) (owns a b c : List FoundPacing) (v : List (Option Code)) (are : AreFound spec owns a b c v) where
   abbrev all : Found spec
-  all = record { owns = owns; spawns = a; evals = b; closes = c; verdicts = v; are = are }
+  all = record { owns = owns; spawns = a; evals = b; closes = c; window_refusals = v; are = are }
 
   module _ (t : List Stream) (k l m : List FoundPacing) (u : List (Option Code)) (list : List Refusal) where
     -- a refusal is first

@@ -13,7 +13,7 @@ use Rattle.lola_model.specs.Model.{spawn_pacing, eval_pacing, close_pacing}
 use Rattle.lola_model.specs.Named.{IsNamed, all_numbers, count_with, counted, has_clause, has_kind, has_when, is_of_bool, is_input_shape, is_output_shape, is_trigger_shape, is_well_shaped, is_window_of, same_part, window_number, windows_stand_here}
 use Rattle.lola_model.specs.Parts.{listed, listed_when, listed_with, listed_clause, listed_stream}
 use Rattle.lola_model.specs.Typed.{IsTyped}
-use Rattle.lola_model.specs.WindowVerdicts.{IsFineEnough, IsVerdict}
+use Rattle.lola_model.specs.WindowRefusals.{IsFineEnough, IsWindowRefusal}
 use Rattle.lola_model.specs.Wholes.{Whole, condition_wholes, with_wholes, clause_wholes, stream_wholes, wholes_from, noted_kinds, all_wholes}
 use Rattle.lola_model.specs.declared.expr.Expr.{Expr}
 use Rattle.lola_model.specs.declared.expr.Expr.TheVariants.{Literal, Parameter, Read, Window, Defaults', Unary', Both', Choice'}
@@ -33,7 +33,7 @@ use Rattle.lola_model.specs.declared.uses.Use.{Use}
 use Rattle.lola_model.specs.declared.uses.Use.TheVariants.{OfWindow}
 use Rattle.lola_model.specs.PacingFound.{finding_at, is_unpaced}
 use Rattle.lola_model.specs.PacingRefused.{clause_refusals, used}
-use Rattle.lola_model.specs.Pacings.{AreVerdicts, Found, finding_of_part, pacing_of, pacings_from, refusals_of}
+use Rattle.lola_model.specs.Pacings.{AreWindowRefusals, Found, finding_of_part, pacing_of, pacings_from, refusals_of}
 use Rattle.lola_pacing.proofs.FineLemmas.{accepts_fine}
 use Rattle.lola_pacing.proofs.ListedLemmas.{Has, in_some_stream, maps_clause}
 use Rattle.lola_pacing.proofs.PacedLemmas.{empty_left, empty_right, first_true, here, later, paces_all, range_at, second_true}
@@ -206,14 +206,14 @@ eval_beside s sort.Trigger h k =
 -- what stands against a window
 
 module _ (spawns evals closes : List FoundPacing) where
-  verdict_at : (ws : List WindowSpec) (vs : List (Option Code)) (i : ℕ) (w : WindowSpec) → AreVerdicts spawns evals closes ws vs → slice_get ws i ≡ Some w
-      → (v : Option Code) × (slice_get vs i ≡ Some v) × IsVerdict (finding_of_part spawns evals closes w.stream w.part) w.over v
-  verdict_at [] vs i w h e = absurd (cc)
-  verdict_at (x ∷ xs) [] i w h e = absurd h
-  verdict_at (x ∷ xs) (v ∷ vs) zero w h e =
+  window_refusal_at : (ws : List WindowSpec) (vs : List (Option Code)) (i : ℕ) (w : WindowSpec) → AreWindowRefusals spawns evals closes ws vs → slice_get ws i ≡ Some w
+      → (v : Option Code) × (slice_get vs i ≡ Some v) × IsWindowRefusal (finding_of_part spawns evals closes w.stream w.part) w.over v
+  window_refusal_at [] vs i w h e = absurd (cc)
+  window_refusal_at (x ∷ xs) [] i w h e = absurd h
+  window_refusal_at (x ∷ xs) (v ∷ vs) zero w h e =
       let same : x ≡ w = cc in
-      (v, refl, subst (λ (y : WindowSpec). IsVerdict (finding_of_part spawns evals closes y.stream y.part) y.over v) same h.0)
-  verdict_at (x ∷ xs) (v ∷ vs) (suc i) w h e = verdict_at xs vs i w h.1 e
+      (v, refl, subst (λ (y : WindowSpec). IsWindowRefusal (finding_of_part spawns evals closes y.stream y.part) y.over v) same h.0)
+  window_refusal_at (x ∷ xs) (v ∷ vs) (suc i) w h e = window_refusal_at xs vs i w h.1 e
 
   -- the pacings of stream n
   abbrev pacings_of : ℕ → ClausePacings
@@ -234,12 +234,12 @@ none_against : (v : Option Code) (o : Option (Option Code)) → o ≡ Some v →
 none_against v None e h = absurd (cc)
 none_against v (Some x) e h = cc
 
-by_verdict : (g : FoundPacing) (over : ℕ) → is_unpaced g ≡ false → IsVerdict g over None → (r : Ratio) × (g ≡ Paced (Periodic r)) × IsFineEnough r over
-by_verdict (Paced (Event sets)) over u v = absurd (cc)
-by_verdict (Paced (Periodic r)) over u v = (r, refl, v)
-by_verdict (Paced (Local r)) over u v = absurd (cc)
-by_verdict (Refused r) over u v = absurd (cc)
-by_verdict Unpaced over u v = absurd (cc)
+by_window_refusal : (g : FoundPacing) (over : ℕ) → is_unpaced g ≡ false → IsWindowRefusal g over None → (r : Ratio) × (g ≡ Paced (Periodic r)) × IsFineEnough r over
+by_window_refusal (Paced (Event sets)) over u v = absurd (cc)
+by_window_refusal (Paced (Periodic r)) over u v = (r, refl, v)
+by_window_refusal (Paced (Local r)) over u v = absurd (cc)
+by_window_refusal (Refused r) over u v = absurd (cc)
+by_window_refusal Unpaced over u v = absurd (cc)
 
 clause_there : (o : Option Clause) (g : FoundPacing) (i : ℕ) → Contains (listed_clause window_number o) i → IsPacedWhere o g → is_unpaced g ≡ false
 clause_there None g i c h = absurd (Contains-none i c)
@@ -252,10 +252,10 @@ has_it (Some k) i c = refl
 module _ (spec : Spec) (f : Found spec) (named : IsNamed spec) (typed : IsTyped spec) (accepted : refusals_of spec f ≡ []) where
   -- nothing is refused of a clause
   of_part : (n : ℕ) (s : Stream) (p : Part) → slice_get spec.streams n ≡ Some s
-      → clause_refusals spec.streams f.evals f.verdicts (finding_of_part f.spawns f.evals f.closes n p) (clause_of s p) ≡ []
-  of_part n s part.Spawn e = empty_left (clause_refusals spec.streams f.evals f.verdicts (finding_at f.spawns n) s.spawn) _ (here spec f typed.ranged.rates accepted n s e)
-  of_part n s part.Eval e = empty_left (clause_refusals spec.streams f.evals f.verdicts (finding_at f.evals n) s.eval) _ (later spec f typed.ranged.rates accepted n s e)
-  of_part n s part.Close e = empty_right (clause_refusals spec.streams f.evals f.verdicts (finding_at f.evals n) s.eval) _ (later spec f typed.ranged.rates accepted n s e)
+      → clause_refusals spec.streams f.evals f.window_refusals (finding_of_part f.spawns f.evals f.closes n p) (clause_of s p) ≡ []
+  of_part n s part.Spawn e = empty_left (clause_refusals spec.streams f.evals f.window_refusals (finding_at f.spawns n) s.spawn) _ (here spec f typed.ranged.rates accepted n s e)
+  of_part n s part.Eval e = empty_left (clause_refusals spec.streams f.evals f.window_refusals (finding_at f.evals n) s.eval) _ (later spec f typed.ranged.rates accepted n s e)
+  of_part n s part.Close e = empty_right (clause_refusals spec.streams f.evals f.window_refusals (finding_at f.evals n) s.eval) _ (later spec f typed.ranged.rates accepted n s e)
 
   -- and it has a pacing
   part_paced : (n : ℕ) (s : Stream) (p : Part) (i : ℕ) → slice_get spec.streams n ≡ Some s → Contains (listed_clause window_number (clause_of s p)) i
@@ -274,23 +274,23 @@ module _ (spec : Spec) (f : Found spec) (named : IsNamed spec) (typed : IsTyped 
         let within = of_clause (windows_stand_here spec.windows) n s of.0 p of.1 in
         stands_so n p (slice_get spec.windows i) w at (stands_in spec.windows n p i within.0 within.1 (clause_of s p) within.2 c)
 
-    no_verdict : (n : ℕ) (s : Stream) (p : Part) → slice_get spec.streams n ≡ Some s → Contains (listed_clause window_number (clause_of s p)) i → unwrap_or (slice_get f.verdicts i) None ≡ None
-    no_verdict n s p e c =
+    no_window_refusal : (n : ℕ) (s : Stream) (p : Part) → slice_get spec.streams n ≡ Some s → Contains (listed_clause window_number (clause_of s p)) i → unwrap_or (slice_get f.window_refusals i) None ≡ None
+    no_window_refusal n s p e c =
         let used_there = maps_clause ℕ Use window_number used i (λ u. (q : ℕ) × (u ≡ OfWindow q i)) (is_used i) (clause_of s p) c in
         let listed_use = subst (λ (u : Use). Contains (listed_clause used (clause_of s p)) u) used_there.2.1 used_there.1 in
-        accepts_fine.fine spec.streams f.evals f.verdicts (finding_of_part f.spawns f.evals f.closes n p) (clause_of s p) (of_part n s p e) (OfWindow used_there.2.0 i) listed_use
+        accepts_fine.fine spec.streams f.evals f.window_refusals (finding_of_part f.spawns f.evals f.closes n p) (clause_of s p) (of_part n s p e) (OfWindow used_there.2.0 i) listed_use
 
     -- its clause has a rate, and it is fine enough
     fine : (n : ℕ) (s : Stream) (p : Part) → slice_get spec.streams n ≡ Some s → Contains (listed_clause window_number (clause_of s p)) i
         → (r : Ratio) × (finding_of_part f.spawns f.evals f.closes n p ≡ Paced (Periodic r)) × IsFineEnough r w.over
     fine n s p e c =
-        let v = verdict_at f.spawns f.evals f.closes spec.windows f.verdicts i w f.are.are_verdicts at in
-        let none = none_against v.0 (slice_get f.verdicts i) v.1 (no_verdict n s p e c) in
+        let v = window_refusal_at f.spawns f.evals f.closes spec.windows f.window_refusals i w f.are.are_window_refusals at in
+        let none = none_against v.0 (slice_get f.window_refusals i) v.1 (no_window_refusal n s p e c) in
         let place = in_clause n s p e c in
-        let one = subst (λ (m : ℕ). IsVerdict (finding_of_part f.spawns f.evals f.closes m w.part) w.over v.0) place.0 v.2 in
-        let two = subst (λ (q : Part). IsVerdict (finding_of_part f.spawns f.evals f.closes n q) w.over v.0) place.1 one in
-        let three = subst (λ (o : Option Code). IsVerdict (finding_of_part f.spawns f.evals f.closes n p) w.over o) none two in
-        by_verdict (finding_of_part f.spawns f.evals f.closes n p) w.over (part_paced n s p i e c) three
+        let one = subst (λ (m : ℕ). IsWindowRefusal (finding_of_part f.spawns f.evals f.closes m w.part) w.over v.0) place.0 v.2 in
+        let two = subst (λ (q : Part). IsWindowRefusal (finding_of_part f.spawns f.evals f.closes n q) w.over v.0) place.1 one in
+        let three = subst (λ (o : Option Code). IsWindowRefusal (finding_of_part f.spawns f.evals f.closes n p) w.over o) none two in
+        by_window_refusal (finding_of_part f.spawns f.evals f.closes n p) w.over (part_paced n s p i e c) three
 
     window_paced : (pacings : List ClausePacings) → pacings ≡ pacings_from f.spawns f.evals f.closes 0 spec.streams → IsWindowPaced pacings w
     window_paced pacings are =

@@ -4,7 +4,7 @@ use Rattle.lola_value.specs.Ratio.{Ratio}
 use Rattle.lola_model.specs.Bounds.{pacing_at}
 use Rattle.lola_model.specs.Named.{IsNamed, all_streams, has_clause, is_stream_paced_in_range}
 use Rattle.lola_model.specs.Typed.{IsTyped}
-use Rattle.lola_model.specs.WindowVerdicts.{IsFineEnough}
+use Rattle.lola_model.specs.WindowRefusals.{IsFineEnough}
 use Rattle.lola_model.specs.declared.pacing.ClausePacings.{ClausePacings}
 use Rattle.lola_model.specs.declared.pacing.Pacing.TheVariants.{Periodic}
 use Rattle.lola_model.specs.declared.spec.WindowSpec.{WindowSpec}

@@ -30,13 +30,13 @@ pub record MeansConjunction : Type 0 where
 
 -- nothing stands against a direct access or a window
 abbrev pub IsFine : List Stream → List FoundPacing → List (Option Code) → FoundPacing → Use → Type 0
-IsFine streams evals verdicts own (OfStream at n) =
+IsFine streams evals window_refusals own (OfStream at n) =
     ((p q : Pacing) → own ≡ Paced p → finding_at evals n ≡ Paced q → Implies p q) × (is_filtered (slice_get streams n) ≡ false)
-IsFine streams evals verdicts own (OfWindow at w) = unwrap_or (slice_get verdicts w) None ≡ None
+IsFine streams evals window_refusals own (OfWindow at w) = unwrap_or (slice_get window_refusals w) None ≡ None
 
 -- where nothing is refused of a clause, its direct accesses and windows are fine, and nothing is refused of its pacing
 pub record AcceptsFine : Type 0 where
-  pub fine : (streams : List Stream) (evals : List FoundPacing) (verdicts : List (Option Code)) (own : FoundPacing) (clause : Option Clause)
-      → clause_refusals streams evals verdicts own clause ≡ [] → (u : Use) → Contains (listed_clause used clause) u → IsFine streams evals verdicts own u
-  pub found : (streams : List Stream) (evals : List FoundPacing) (verdicts : List (Option Code)) (own : FoundPacing) (clause : Option Clause)
-      → clause_refusals streams evals verdicts own clause ≡ [] → (r : Refusal) → own ≢ Refused r
+  pub fine : (streams : List Stream) (evals : List FoundPacing) (window_refusals : List (Option Code)) (own : FoundPacing) (clause : Option Clause)
+      → clause_refusals streams evals window_refusals own clause ≡ [] → (u : Use) → Contains (listed_clause used clause) u → IsFine streams evals window_refusals own u
+  pub found : (streams : List Stream) (evals : List FoundPacing) (window_refusals : List (Option Code)) (own : FoundPacing) (clause : Option Clause)
+      → clause_refusals streams evals window_refusals own clause ≡ [] → (r : Refusal) → own ≢ Refused r

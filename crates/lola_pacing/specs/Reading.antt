@@ -4,8 +4,8 @@ use Rattle.lola_model.specs.Leaves.{followed_by}
 use Rattle.lola_model.specs.PacingRefused.{access_use}
 use Rattle.lola_model.specs.declared.uses.Use.{Use}
 use Rattle.lola_model.specs.declared.uses.Use.TheVariants.{OfWindow}
-use Rattle.lola_model_parts.specs.declared.part.ReadPart.{ReadPart}
-use Rattle.lola_model_parts.specs.declared.part.ReadPart.TheVariants.{Read, Window}
+use Rattle.lola_model.specs.declared.part.ReadPart.{ReadPart}
+use Rattle.lola_model.specs.declared.part.ReadPart.TheVariants.{Read, Window}
 
 -- the stream of an access that is followed
 abbrev pub followed_part : ReadPart → List ℕ

@@ -14,7 +14,7 @@ use crate::given::owns;
 use crate::leaves::lists_of;
 use crate::pacings::pacings;
 use crate::refusals::{first, refusals};
-use crate::verdicts::of_windows;
+use crate::window_refusals::of_windows;
 use lola_model::finding::FoundPacing;
 use lola_model::pacing::Pacings;
 use lola_model::spec::{Part, Spec};
@@ -30,7 +30,7 @@ struct AllFindings {
     spawns: Vec<FoundPacing>,
     evals: Vec<FoundPacing>,
     closes: Vec<FoundPacing>,
-    verdicts: Vec<Option<Code>>,
+    window_refusals: Vec<Option<Code>>,
 }
 
 /// Finds it.
@@ -40,27 +40,27 @@ fn findings(alloc: Global, spec: &Spec) -> Result<AllFindings, Memory>
     requires inputs { length (filter is_input spec.now.streams) ≤ 64 }
     requires formulas { AreOverInputs spec.now.streams }
     requires windows { IsTrue (all_windows is_span spec.now.windows) }
-    ensures { IfOk result (λ found. AreFound spec.now found.owns.items found.spawns.items found.evals.items found.closes.items found.verdicts.items) }
+    ensures { IfOk result (λ found. AreFound spec.now found.owns.items found.spawns.items found.evals.items found.closes.items found.window_refusals.items) }
 {
     let lists = lists_of(alloc, spec)?;
     let owns = owns(alloc, spec.streams.as_slice())?;
     let spawns = of_parts(alloc, spec, &lists, &owns, &[], Part::Spawn)?;
     let evals = of_parts(alloc, spec, &lists, &owns, &[], Part::Eval)?;
     let closes = of_parts(alloc, spec, &lists, &owns, &evals, Part::Close)?;
-    let verdicts = of_windows(alloc, &spawns, &evals, &closes, spec.windows.as_slice())?;
+    let window_refusals = of_windows(alloc, &spawns, &evals, &closes, spec.windows.as_slice())?;
     Ok(AllFindings {
         owns,
         spawns,
         evals,
         closes,
-        verdicts,
+        window_refusals,
     })
 }
 
 /// The answer, where all is found.
 fn answer(alloc: Global, spec: &Spec, found: &AllFindings) -> Result<Pacings, FrontEnd>
     requires streams { length spec.now.streams ≤ 1024 }
-    requires found { AreFound spec.now found.now.owns.items found.now.spawns.items found.now.evals.items found.now.closes.items found.now.verdicts.items }
+    requires found { AreFound spec.now found.now.owns.items found.now.spawns.items found.now.evals.items found.now.closes.items found.now.window_refusals.items }
     ensures { AnswersPacing spec.now result }
 {
     let streams = spec.streams.as_slice();
@@ -70,7 +70,7 @@ fn answer(alloc: Global, spec: &Spec, found: &AllFindings) -> Result<Pacings, Fr
         &found.spawns,
         &found.evals,
         &found.closes,
-        &found.verdicts,
+        &found.window_refusals,
     )?;
     match first(&list) {
         Some(refusal) => Err(FrontEnd::Refused(refusal)),

@@ -6,9 +6,9 @@ ghost use Rattle.lola_pacing.specs.Reading.{followed_part};
 
 use crate::numbers::StreamNumbers;
 use lola_model::expr::Access;
+use lola_model::part::{PartVisitor, ReadPart};
 use lola_model::spec::{Clause, Sort, Spec, Stream};
-use lola_model_parts::part::{PartVisitor, ReadPart};
-use lola_model_parts::walk::visit_clause;
+use lola_model::walk::visit_clause;
 use lola_value::text::Memory;
 use std::alloc::Global;
 

@@ -4,7 +4,7 @@ ghost use Rattle.lola_pacing.specs.Laws.{AcceptsFine, TellsImplication, MeansCon
 
 /// The test by least sets and by rates tells when one pacing implies another: over all sets of inputs, and where the one
 /// rate is a whole number of times the other.
-pub fn implication_is_told()
+pub fn implication_is_decided()
     ensures { TellsImplication }
 {}
 
@@ -15,6 +15,6 @@ pub fn joined_is_conjunction()
 
 /// Where nothing is refused of a clause, its pacing implies those of the streams that it accesses directly, none of these
 /// is filtered, and nothing stands against its windows.
-pub fn accepted_is_fine()
+pub fn unrefused_is_fine()
     ensures { AcceptsFine }
 {}

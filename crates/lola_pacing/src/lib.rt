@@ -22,8 +22,8 @@ pub mod refused;
 mod search;
 pub mod sorts;
 pub mod uses;
-pub mod verdict;
-mod verdicts;
+pub mod window_refusal;
+mod window_refusals;
 
 pub use lola_pacing_normal::implies::implies;
 pub use lola_pacing_normal::normal::normal;

@@ -20,21 +20,21 @@ fn put_clause_of(
     list: &mut Vec<Refusal>,
     streams: &[Stream],
     evals: &[FoundPacing],
-    verdicts: &[Option<Code>],
+    window_refusals: &[Option<Code>],
     findings: &[FoundPacing],
     number: u32,
     clause: &Option<Clause>,
 ) -> Result<(), Memory>
-    ensures { OnOk result (list.new.items ≡ list.old.items ++ clause_refusals streams.now evals.now verdicts.now (finding_at findings.now number) clause.now) }
+    ensures { OnOk result (list.new.items ≡ list.old.items ++ clause_refusals streams.now evals.now window_refusals.now (finding_at findings.now number) clause.now) }
 {
     match findings.get(number as usize) {
-        Some(own) => put_clause(alloc, list, streams, evals, verdicts, own, clause),
+        Some(own) => put_clause(alloc, list, streams, evals, window_refusals, own, clause),
         None => put_clause(
             alloc,
             list,
             streams,
             evals,
-            verdicts,
+            window_refusals,
             &FoundPacing::Unpaced,
             clause,
         ),
@@ -49,18 +49,18 @@ fn put_stream(
     spawns: &[FoundPacing],
     evals: &[FoundPacing],
     closes: &[FoundPacing],
-    verdicts: &[Option<Code>],
+    window_refusals: &[Option<Code>],
     number: u32,
     stream: &Stream,
 ) -> Result<(), Memory>
-    ensures { OnOk result (list.new.items ≡ list.old.items ++ stream_refusals streams.now spawns.now evals.now closes.now verdicts.now number stream.now) }
+    ensures { OnOk result (list.new.items ≡ list.old.items ++ stream_refusals streams.now spawns.now evals.now closes.now window_refusals.now number stream.now) }
 {
     put_clause_of(
         alloc,
         list,
         streams,
         evals,
-        verdicts,
+        window_refusals,
         spawns,
         number,
         &stream.spawn,
@@ -70,7 +70,7 @@ fn put_stream(
         list,
         streams,
         evals,
-        verdicts,
+        window_refusals,
         evals,
         number,
         &stream.eval,
@@ -80,7 +80,7 @@ fn put_stream(
         list,
         streams,
         evals,
-        verdicts,
+        window_refusals,
         closes,
         number,
         &stream.close,
@@ -95,16 +95,24 @@ pub fn refusals(
     spawns: &[FoundPacing],
     evals: &[FoundPacing],
     closes: &[FoundPacing],
-    verdicts: &[Option<Code>],
+    window_refusals: &[Option<Code>],
 ) -> Result<Vec<Refusal>, Memory>
     requires { length streams.now ≤ 1024 }
-    ensures { IfOk result (λ list. list.items ≡ refusals_from streams.now spawns.now evals.now closes.now verdicts.now 0 streams.now) }
+    ensures { IfOk result (λ list. list.items ≡ refusals_from streams.now spawns.now evals.now closes.now window_refusals.now 0 streams.now) }
 {
     let mut list = Vec::new(alloc);
     let mut number = 0;
     for stream in streams {
         put_stream(
-            alloc, &mut list, streams, spawns, evals, closes, verdicts, number, stream,
+            alloc,
+            &mut list,
+            streams,
+            spawns,
+            evals,
+            closes,
+            window_refusals,
+            number,
+            stream,
         )?;
         number += 1;
     }

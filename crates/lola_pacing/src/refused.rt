@@ -4,7 +4,7 @@ ghost use Rattle.std.specs.Prelude.{◌≡◌, ◌++◌, [], ◌∷◌, OnOk, un
 ghost use Rattle.lola_value.specs.declared.front.Code.TheVariants as code;
 ghost use Rattle.lola_model.specs.Named.{has_clause, has_when as has_condition};
 ghost use Rattle.lola_model.specs.PacingFound.{finding_at};
-ghost use Rattle.lola_model.specs.PacingRefused.{clause_refusals, does_imply, finding_refusal, is_filtered as is_filtered_stream, not_implied, refusal_where, use_refusals, verdict_refusal};
+ghost use Rattle.lola_model.specs.PacingRefused.{clause_refusals, does_imply, finding_refusal, is_filtered as is_filtered_stream, not_implied, refusal_where, use_refusals, refusal_of_window};
 
 use crate::uses::uses_of;
 use lola_model::finding::FoundPacing;
@@ -110,20 +110,24 @@ fn put_filtered(
 }
 
 /// What stands against a window, if anything does.
-fn verdict_at(verdicts: &[Option<Code>], window: u32) -> Option<Code>
-    ensures { result ≡ unwrap_or (slice_get verdicts.now window) None }
+fn window_refusal_at(window_refusals: &[Option<Code>], window: u32) -> Option<Code>
+    ensures { result ≡ unwrap_or (slice_get window_refusals.now window) None }
 {
-    match verdicts.get(window as usize) {
-        Some(verdict) => *verdict,
+    match window_refusals.get(window as usize) {
+        Some(window_refusal) => *window_refusal,
         None => None,
     }
 }
 
 /// Puts what stands against a window, if anything does.
-fn put_verdict(list: &mut Vec<Refusal>, verdict: Option<Code>, at: u32) -> Result<(), Memory>
-    ensures { OnOk result (list.new.items ≡ list.old.items ++ verdict_refusal verdict at) }
+fn put_window_refusal(
+    list: &mut Vec<Refusal>,
+    window_refusal: Option<Code>,
+    at: u32,
+) -> Result<(), Memory>
+    ensures { OnOk result (list.new.items ≡ list.old.items ++ refusal_of_window window_refusal at) }
 {
-    match verdict {
+    match window_refusal {
         None => Ok(()),
         Some(code) => put(list, code, at),
     }
@@ -134,18 +138,22 @@ fn put_use(
     list: &mut Vec<Refusal>,
     streams: &[Stream],
     evals: &[FoundPacing],
-    verdicts: &[Option<Code>],
+    window_refusals: &[Option<Code>],
     own: &FoundPacing,
     part: &Use,
 ) -> Result<(), Memory>
-    ensures { OnOk result (list.new.items ≡ list.old.items ++ use_refusals streams.now evals.now verdicts.now own.now part.now) }
+    ensures { OnOk result (list.new.items ≡ list.old.items ++ use_refusals streams.now evals.now window_refusals.now own.now part.now) }
 {
     match part {
         Use::OfStream(at, stream) => {
             put_unimplied_at(list, evals, own, *stream, *at)?;
             put_filtered(list, streams, *stream, *at)
         }
-        Use::OfWindow(at, window) => put_verdict(list, verdict_at(verdicts, *window), *at),
+        Use::OfWindow(at, window) => put_window_refusal(
+            list,
+            window_refusal_at(window_refusals, *window),
+            *at,
+        ),
     }
 }
 
@@ -154,14 +162,14 @@ fn put_uses(
     list: &mut Vec<Refusal>,
     streams: &[Stream],
     evals: &[FoundPacing],
-    verdicts: &[Option<Code>],
+    window_refusals: &[Option<Code>],
     own: &FoundPacing,
     parts: &[Use],
 ) -> Result<(), Memory>
-    ensures { OnOk result (list.new.items ≡ list.old.items ++ flat_map (use_refusals streams.now evals.now verdicts.now own.now) parts.now) }
+    ensures { OnOk result (list.new.items ≡ list.old.items ++ flat_map (use_refusals streams.now evals.now window_refusals.now own.now) parts.now) }
 {
     for part in parts {
-        put_use(list, streams, evals, verdicts, own, part)?;
+        put_use(list, streams, evals, window_refusals, own, part)?;
     }
     Ok(())
 }
@@ -184,13 +192,13 @@ pub fn put_clause(
     list: &mut Vec<Refusal>,
     streams: &[Stream],
     evals: &[FoundPacing],
-    verdicts: &[Option<Code>],
+    window_refusals: &[Option<Code>],
     own: &FoundPacing,
     clause: &Option<Clause>,
 ) -> Result<(), Memory>
-    ensures { OnOk result (list.new.items ≡ list.old.items ++ clause_refusals streams.now evals.now verdicts.now own.now clause.now) }
+    ensures { OnOk result (list.new.items ≡ list.old.items ++ clause_refusals streams.now evals.now window_refusals.now own.now clause.now) }
 {
     put_finding(list, own)?;
     let parts = uses_of(alloc, clause)?;
-    put_uses(list, streams, evals, verdicts, own, &parts)
+    put_uses(list, streams, evals, window_refusals, own, &parts)
 }

@@ -7,10 +7,10 @@ ghost use Rattle.lola_model.specs.declared.uses.Use.{Use as UseValue};
 ghost use Rattle.lola_pacing.specs.Reading.{used_part};
 
 use lola_model::expr::Access;
+use lola_model::part::{PartVisitor, ReadPart};
 use lola_model::spec::Clause;
 use lola_model::uses::Use;
-use lola_model_parts::part::{PartVisitor, ReadPart};
-use lola_model_parts::walk::visit_clause;
+use lola_model::walk::visit_clause;
 use lola_value::text::Memory;
 use std::alloc::Global;
 

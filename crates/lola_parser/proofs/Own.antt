@@ -1,6 +1,6 @@
 -- Where no bracket of a spawn clause stands before it, the nesting at which reading ended is the place of the rule.
 use Rattle.std.proofs.Common.{◌≡◌, ℕ, ◌≤◌, List, ◌∷◌, ◌++◌, Some, None, Result, Ok, Err, refl, sym, ap, subst, ◌∙◌, append_assoc, arith, inl, inr, ◌⊎◌}
-use Rattle.lola_parser_tree.specs.declared.declarations.Declaration.{Declaration}
+use Rattle.lola_parser_grammar.specs.declared.declarations.Declaration.{Declaration}
 use Rattle.lola_parser_grammar.specs.Syntax.{Lexeme, TooDeep, Spells, max_nestings, read_all}
 use Rattle.lola_parser.specs.Late.{IsNextBehindBracket, IsFirstLate, IsDeepPlace}
 use Rattle.lola_parser.specs.Fronts.{IsLongestFront}

@@ -1,6 +1,6 @@
 -- Each expression is recognized.
 use Rattle.std.proofs.Common.{◌≡◌, ℕ, ◌-◌, ◌<◌, true, false, List, ◌++◌, length, Some, arith}
-use Rattle.lola_parser_tree.specs.declared.expressions.Expr.{Expr}
+use Rattle.lola_parser_grammar.specs.declared.expressions.Expr.{Expr}
 use Rattle.lola_parser_grammar.specs.Syntax.{Lexeme, Spells, starts, more, is_fine}
 use Rattle.lola_parser_grammar.specs.Nestings.{tallies, guards, nestings_in}
 use Rattle.lola_parser_grammar.proofs.Within.{complete_within}

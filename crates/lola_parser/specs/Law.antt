@@ -1,6 +1,6 @@
 -- What is left behind an expression, in the words of the grammar.
 use Rattle.std.specs.Prelude.{◌≡◌, ℕ, ◌<◌, ◌≤◌, false, List, ◌∷◌, ◌++◌, length, Some, Err}
-use Rattle.lola_parser_tree.specs.declared.expressions.Expr.{Expr}
+use Rattle.lola_parser_grammar.specs.declared.expressions.Expr.{Expr}
 use Rattle.lola_parser_grammar.specs.Syntax.{Lexeme, TooDeep, Spells, starts, max_nestings, read_all}
 use Rattle.lola_parser_grammar.specs.Nestings.{nestings_in}
 use Rattle.lola_parser.specs.Late.{IsDeepPlace}

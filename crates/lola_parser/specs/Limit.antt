@@ -1,6 +1,6 @@
 -- Where a specification is refused as too deep.
 use Rattle.std.specs.Prelude.{◌≡◌, ◌≤◌, ◌<◌, ℕ, List, ◌∷◌, ◌++◌, length, Err, ◌⊎◌}
-use Rattle.lola_parser_tree.specs.declared.declarations.Declaration.{Declaration}
+use Rattle.lola_parser_grammar.specs.declared.declarations.Declaration.{Declaration}
 use Rattle.lola_parser_grammar.specs.Syntax.{Lexeme, Unexpected, TooDeep, Spells, read_all}
 use Rattle.lola_parser_grammar.specs.Grammar.{specification, all_nestings}
 use Rattle.lola_parser_grammar.specs.Whole.{most_levels}

@@ -29,13 +29,13 @@ pub fn has_longest_front()
 /// The nesting at which reading is refused as too deep is the 513th or a later nesting of a whole expression or formula in every
 /// specification that begins with the tokens before the first one that does not fit, also where the tokens are no
 /// specification.
-pub fn late_in_every()
+pub fn deep_in_every()
     ensures { TooDeepIsLateInEvery }
 {}
 
 /// Where a nesting before the first token that does not fit is the 513th or a later nesting of a whole expression or formula in
 /// every specification that begins with the tokens before that token, the text is refused as too deep, and not at that token.
-pub fn late_is_too_deep()
+pub fn deep_is_refused()
     ensures { LateInEveryIsTooDeep }
 {}
 

@@ -16,7 +16,7 @@ use crate::looking_back::{behind_bracket, count_of_nestings, last_nesting};
 use lola_lexer::shape::TokenShape;
 use lola_lexer::token::{Token, Tokens};
 use lola_parser_declarations::reading::parse;
-use lola_parser_tree::declarations::Ast;
+use lola_parser_grammar::declarations::Ast;
 use lola_value::front::{Code, FrontEnd, Refusal};
 use lola_value::text::Memory;
 use std::alloc::Global;

@@ -4,7 +4,7 @@ use Rattle.std.proofs.lemmas.List.{append-nil}
 use Rattle.std.specs.Prelude.{fold}
 use Rattle.lola_parser_grammar.specs.Syntax.{Lexeme, Terminal, Syntax, Then, Map, Maybe, Many, starts, first, nullable, Refusal, Outcome, ◌>>=◌, repeated, read}
 use Rattle.lola_parser_grammar.proofs.Laws.{done_is}
-use Rattle.lola_parser_tree.specs.declared.expressions.Expr.{Expr}
+use Rattle.lola_parser_grammar.specs.declared.expressions.Expr.{Expr}
 use Rattle.lola_parser_grammar.specs.Grammar.{Operator, join, onto, folded, added, joined_once, nesting, operator, product_operators, sum_operators, comparison_operators, and_operators, or_operators}
 
 -- what is joined to the left side from here on, in at most so many turns

@@ -11,7 +11,7 @@ use crate::literals;
 use lola_lexer::shape::TokenShape;
 use lola_lexer::token::Token;
 use lola_parser_grammar::error::ParseError;
-use lola_parser_tree::literals::{Name, Quantity};
+use lola_parser_grammar::literals::{Name, Quantity};
 use lola_value::text::Text;
 use std::alloc::Global;
 use std::marker::Model;

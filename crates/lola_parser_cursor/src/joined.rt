@@ -2,7 +2,7 @@
 
 ghost use Rattle.std.specs.Prelude.{◌≡◌, IfOk};
 
-use lola_parser_tree::expressions::{Binary, Expr, Prefix};
+use lola_parser_grammar::expressions::{Binary, Expr, Prefix};
 use sqlite_items::Boxed;
 use std::alloc::{AllocError, Global};
 

@@ -4,7 +4,7 @@ ghost use Rattle.std.specs.Prelude.{◌≡◌, ◌≤◌, length, IfOk, false};
 ghost use Rattle.std.specs.Str.{bytes_eq};
 ghost use Rattle.lola_parser_grammar.specs.Literals as spec;
 
-use lola_parser_tree::literals::QuantityUnit;
+use lola_parser_grammar::literals::QuantityUnit;
 use lola_value::text::{Memory, Text};
 use std::alloc::Global;
 

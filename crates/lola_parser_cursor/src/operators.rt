@@ -8,7 +8,7 @@ ghost use Rattle.lola_parser_grammar.specs.Grammar as spec;
 use crate::cursor::Parser;
 use lola_lexer::shape::TokenShape;
 use lola_parser_grammar::error::ParseError;
-use lola_parser_tree::expressions::Binary;
+use lola_parser_grammar::expressions::Binary;
 
 /// An operator, and its place.
 pub type Operator = (Binary, u32);

@@ -7,7 +7,7 @@ ghost use Rattle.lola_parser_grammar.specs.Grammar as spec;
 use crate::cursor::Parser;
 use lola_lexer::shape::TokenShape;
 use lola_parser_grammar::error::ParseError;
-use lola_parser_tree::literals::{Literal, Value};
+use lola_parser_grammar::literals::{Literal, Value};
 use std::alloc::Global;
 
 /// Takes `true`, `false` or a text.

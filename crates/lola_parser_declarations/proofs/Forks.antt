@@ -1,8 +1,8 @@
 -- What is read behind a bracket that opens a list or an expression.
 use Rattle.std.proofs.Common.{◌≡◌, ℕ, suc, ◌-◌, ◌≤◌, ◌<◌, true, false, List, [], ◌∷◌, length, drop, Ok, Err, refl, ap, arith}
 use Rattle.std.proofs.lemmas.List.{length-append}
-use Rattle.lola_parser_tree.specs.declared.clauses.Part.{Part}
-use Rattle.lola_parser_tree.specs.declared.expressions.Expr.{Expr}
+use Rattle.lola_parser_grammar.specs.declared.clauses.Part.{Part}
+use Rattle.lola_parser_grammar.specs.declared.expressions.Expr.{Expr}
 use Rattle.lola_parser_grammar.specs.Syntax.{Lexeme, Terminal, Syntax, Fork, Map, starts, first, Unexpected, TooDeep, Outcome, ◌>>=◌, last_nesting, max_nestings, read}
 use Rattle.lola_parser_grammar.proofs.Laws.{sound}
 use Rattle.lola_parser_grammar.specs.Grammar.{Parts, placed, given}

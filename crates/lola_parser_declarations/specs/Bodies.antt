@@ -1,8 +1,8 @@
 -- The clauses of an output, put together.
 use Rattle.std.specs.Prelude.{Option, Some, None}
-use Rattle.lola_parser_tree.specs.declared.clauses.Spawn.{Spawn}
-use Rattle.lola_parser_tree.specs.declared.clauses.Eval.{Eval}
-use Rattle.lola_parser_tree.specs.declared.clauses.Close.{Close}
+use Rattle.lola_parser_grammar.specs.declared.clauses.Spawn.{Spawn}
+use Rattle.lola_parser_grammar.specs.declared.clauses.Eval.{Eval}
+use Rattle.lola_parser_grammar.specs.declared.clauses.Close.{Close}
 use Rattle.lola_parser_grammar.specs.Grammar.{Body}
 
 -- an `eval` clause alone

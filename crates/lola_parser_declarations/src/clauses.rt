@@ -11,8 +11,8 @@ use crate::parts::{maybe_when, maybe_with, part_behind};
 use lola_lexer::shape::TokenShape;
 use lola_parser_cursor::cursor::{MAX_LEVELS, Parser};
 use lola_parser_expressions::pacings::maybe_pacing;
+use lola_parser_grammar::clauses::{Close, Eval, Part, Spawn};
 use lola_parser_grammar::error::ParseError;
-use lola_parser_tree::clauses::{Close, Eval, Part, Spawn};
 use sqlite_items::Items;
 use std::alloc::Global;
 

@@ -9,9 +9,9 @@ ghost use Rattle.lola_parser_grammar.specs.Grammar as spec;
 use lola_lexer::shape::TokenShape;
 use lola_parser_cursor::cursor::{MAX_LEVELS, Parser};
 use lola_parser_expressions::nested::{closed, nested, open_expr, whole};
+use lola_parser_grammar::clauses::Part;
 use lola_parser_grammar::error::ParseError;
-use lola_parser_tree::clauses::Part;
-use lola_parser_tree::expressions::Expr;
+use lola_parser_grammar::expressions::Expr;
 use sqlite_items::Items;
 use std::alloc::{AllocError, Global};
 

@@ -8,8 +8,8 @@ ghost use Rattle.lola_parser_grammar.specs.Whole.{Answers, ReadsAll, Refuses};
 use crate::declarations::declarations;
 use lola_lexer::token::{Token, Tokens};
 use lola_parser_cursor::cursor::Parser;
+use lola_parser_grammar::declarations::Ast;
 use lola_parser_grammar::error::ParseError;
-use lola_parser_tree::declarations::Ast;
 use lola_value::front::{Code, FrontEnd, Refusal};
 use std::alloc::Global;
 

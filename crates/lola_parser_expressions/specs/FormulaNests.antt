@@ -2,7 +2,7 @@
 use Rattle.std.specs.Prelude.{ℕ, Result}
 use Rattle.std.specs.declared.alloc.Global.{Global}
 use denote.Ref.{MutBor}
-use Rattle.lola_parser_tree.specs.declared.pacing.Formula.{Formula}
+use Rattle.lola_parser_grammar.specs.declared.pacing.Formula.{Formula}
 use Rattle.lola_parser_grammar.specs.declared.error.ParseError.{ParseError}
 use Rattle.lola_parser_grammar.specs.Cursor.{Cursor, IsRead}
 use Rattle.lola_parser_grammar.specs.Grammar.{formula_in}

@@ -8,7 +8,7 @@ ghost use Rattle.lola_parser_expressions.specs.FormulaNests.{NestsFormula};
 use lola_lexer::shape::TokenShape;
 use lola_parser_cursor::cursor::Parser;
 use lola_parser_grammar::error::ParseError;
-use lola_parser_tree::pacing::Formula;
+use lola_parser_grammar::pacing::Formula;
 use sqlite_items::Boxed;
 use std::alloc::{AllocError, Global};
 

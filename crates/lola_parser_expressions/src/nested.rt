@@ -7,7 +7,7 @@ ghost use Rattle.lola_parser_grammar.specs.Grammar as spec;
 use crate::rules::Rules;
 use lola_parser_cursor::cursor::{MAX_LEVELS, Parser};
 use lola_parser_grammar::error::ParseError;
-use lola_parser_tree::expressions::Expr;
+use lola_parser_grammar::expressions::Expr;
 use std::alloc::Global;
 
 /// An expression, or an operand that begins with no integer, in which at most `depth` levels are nested.

@@ -7,7 +7,7 @@ ghost use Rattle.lola_parser_grammar.specs.Grammar as spec;
 use crate::formulas::FormulaRules;
 use lola_parser_cursor::cursor::{MAX_LEVELS, Parser};
 use lola_parser_grammar::error::ParseError;
-use lola_parser_tree::pacing::Formula;
+use lola_parser_grammar::pacing::Formula;
 use std::alloc::Global;
 
 /// A formula.

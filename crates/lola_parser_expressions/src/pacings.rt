@@ -9,8 +9,8 @@ use crate::nested_formulas::whole_formula;
 use lola_lexer::shape::TokenShape;
 use lola_parser_cursor::cursor::{MAX_LEVELS, Parser};
 use lola_parser_grammar::error::ParseError;
-use lola_parser_tree::literals::Quantity;
-use lola_parser_tree::pacing::{Formula, Pacing, Rhythm};
+use lola_parser_grammar::literals::Quantity;
+use lola_parser_grammar::pacing::{Formula, Pacing, Rhythm};
 use std::alloc::Global;
 
 #[tactic(auto, unfolding(lola_parser_grammar::specs::Syntax::read, lola_parser_grammar::specs::Syntax::first, lola_parser_grammar::specs::Syntax::nullable))]

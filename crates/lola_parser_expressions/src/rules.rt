@@ -12,7 +12,7 @@ ghost use Rattle.lola_parser_expressions.specs.Nests.{Nests};
 use lola_lexer::shape::TokenShape;
 use lola_parser_cursor::cursor::Parser;
 use lola_parser_grammar::error::ParseError;
-use lola_parser_tree::expressions::Expr;
+use lola_parser_grammar::expressions::Expr;
 use sqlite_items::Boxed;
 use std::alloc::{AllocError, Global};
 

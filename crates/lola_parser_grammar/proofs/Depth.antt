@@ -2,12 +2,12 @@
 use Rattle.std.proofs.Common.{◌≡◌, ℕ, zero, suc, ◌≤◌, Bool, true, false, ◌&&◌, List, refl, arith}
 use Rattle.lola_lexer.specs.declared.shape.TokenShape.{TokenShape}
 use Rattle.lola_lexer.specs.declared.shape.TokenShape.TheVariants as is
-use Rattle.lola_parser_tree.specs.declared.expressions.Expr.{Expr}
-use Rattle.lola_parser_tree.specs.declared.pacing.Formula.{Formula}
+use Rattle.lola_parser_grammar.specs.declared.expressions.Expr.{Expr}
+use Rattle.lola_parser_grammar.specs.declared.pacing.Formula.{Formula}
 use Rattle.lola_parser_grammar.specs.Syntax.{Syntax, Then, Maybe, Many, same_shape, within, max_nestings}
 use Rattle.lola_parser_grammar.specs.Nestings.{least, guards, tallies, is_counted}
-use Rattle.lola_parser_grammar.proofs.Deep.{IsDeep, deep_less, deep_map, deep_then, deep_behind, deep_either, deep_maybe, deep_many}
 use Rattle.lola_parser_grammar.specs.Grammar.{all_nestings, Operator, join, with_default, folded, joined, joined_once, listed, further, either, both, level, formula_level, expr_in, other_in, formula_in, ◌*>◌, ◌<*◌, ◌|>◌, ◌>>◌, token, nesting, word, name, other_name, integer, text, quantity, operator, product_operators, sum_operators, comparison_operators, and_operators, or_operators, word_literal, offset, over, window, arguments, stand_in, hold, get, last, default, reading, dotted_default, defaults, dotted, suffix, named, number, worded, bracketed, operand, negation, negative, minus, plain, other_with, unary, products, product, sums, sum, comparisons, comparison, conjunctions, conjunction, disjunctions, conditional, expr_with, atom, conjunctions_of, conjunct, alternatives_of, formula_with, typed, parameters, kind, clock, message, whole, whole_formula, whole_unbracketed, rhythm, pacing, part_behind, more_parts, one_part, forked, parts, with_parts, spawn, eval, close, short_eval, body, literal, inputs, constant, output, trigger, declaration, specification, open_operand, open_expr, closed, unbracketed}
+use Rattle.lola_parser_grammar.proofs.Deep.{IsDeep, deep_less, deep_map, deep_then, deep_behind, deep_either, deep_maybe, deep_many}
 
 pub level_tallies : (b : Bool) (n : ℕ) → tallies all_nestings (level b n) ≡ true
 unfolding level tallies same_shape token nesting word name other_name integer text quantity operator product_operators sum_operators comparison_operators and_operators or_operators word_literal offset over window arguments stand_in hold get last default reading dotted_default defaults dotted suffix named number worded bracketed operand negation negative minus plain other_with unary products product sums sum comparisons comparison conjunctions conjunction disjunctions conditional expr_with

@@ -2,19 +2,19 @@
 use Rattle.std.proofs.Common.{◌≡◌, ℕ, suc, ◌<◌, ◌≤◌, List, [], ◌∷◌, ◌++◌, length, Result, Ok, Err, refl, sym, ap, ◌∙◌, arith, inl, inr}
 use Rattle.lola_value.specs.declared.front.FrontEnd.{FrontEnd}
 use Rattle.lola_value.specs.declared.front.FrontEnd.TheVariants as front_end
-use Rattle.lola_parser_tree.specs.declared.declarations.Declaration.{Declaration}
+use Rattle.lola_parser_grammar.specs.declared.declarations.Declaration.{Declaration}
 use Rattle.lola_parser_grammar.specs.Syntax.{Lexeme, Spells, Refusal, Unexpected, TooDeep, Outcome, max_nestings, read, all_read, read_all}
 use Rattle.lola_parser_grammar.specs.Exceeding.{Exceeds}
+use Rattle.lola_parser_grammar.specs.Grammar.{specification, all_nestings}
+use Rattle.lola_parser_grammar.specs.Cursor.{place_of}
+use Rattle.lola_parser_grammar.specs.Whole.{most_levels, Answers, Refuses, IsThat, ReadsAll}
+use Rattle.lola_parser_grammar.specs.Nestings.{IsOver}
 use Rattle.lola_parser_grammar.proofs.Exactly.{deep_in_sentence}
 use Rattle.lola_parser_grammar.proofs.Over.{over_whole}
 use Rattle.lola_parser_grammar.proofs.All.{fitting_is_read}
 use Rattle.lola_parser_grammar.proofs.Refusal.{read_is_spelled, refused_at}
-use Rattle.lola_parser_grammar.specs.Grammar.{specification, all_nestings}
-use Rattle.lola_parser_grammar.specs.Cursor.{place_of}
-use Rattle.lola_parser_grammar.specs.Whole.{most_levels, Answers, Refuses, IsThat, ReadsAll}
 use Rattle.lola_parser_grammar.proofs.Fine.{specification_fine}
 use Rattle.lola_parser_grammar.proofs.Levels.{read_alike}
-use Rattle.lola_parser_grammar.specs.Nestings.{IsOver}
 use Rattle.lola_parser_grammar.proofs.Depth.{specification_counted}
 
 pub all_ok : (n : ℕ) (ts : List Lexeme) (x : List Declaration) (i : ℕ) (rest : List Lexeme) → read (specification n) max_nestings ts ≡ Ok (x, i, rest) → length rest ≡ 0 → read_all (specification n) ts ≡ Ok x

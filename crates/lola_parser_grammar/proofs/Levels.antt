@@ -2,14 +2,14 @@
 use Rattle.std.proofs.Common.{◌≡◌, ℕ, zero, suc, ◌≤◌, ◌<◌, true, false, List, refl, ap, arith}
 use Rattle.lola_lexer.specs.declared.shape.TokenShape.{TokenShape}
 use Rattle.lola_lexer.specs.declared.shape.TokenShape.TheVariants as is
-use Rattle.lola_parser_tree.specs.declared.expressions.Expr.{Expr}
-use Rattle.lola_parser_tree.specs.declared.pacing.Formula.{Formula}
-use Rattle.lola_parser_tree.specs.declared.declarations.Declaration.{Declaration}
+use Rattle.lola_parser_grammar.specs.declared.expressions.Expr.{Expr}
+use Rattle.lola_parser_grammar.specs.declared.pacing.Formula.{Formula}
+use Rattle.lola_parser_grammar.specs.declared.declarations.Declaration.{Declaration}
 use Rattle.lola_parser_grammar.specs.Syntax.{Lexeme, Of, Syntax, Outcome, Then, Maybe, Many, same_shape, max_nestings, first, nullable, read, read_all, all_read}
 use Rattle.lola_parser_grammar.specs.Nestings.{tallies}
+use Rattle.lola_parser_grammar.specs.Grammar.{all_nestings, place, Operator, join, with_default, folded, joined, joined_once, listed, further, either, both, level, formula_level, expr_in, other_in, formula_in, ◌*>◌, ◌<*◌, ◌|>◌, ◌>>◌, token, nesting, word, name, integer, text, quantity, operator, product_operators, sum_operators, comparison_operators, and_operators, or_operators, word_literal, offset, over, window, arguments, stand_in, hold, get, last, default, reading, dotted_default, defaults, dotted, suffix, named, number, worded, bracketed, operand, negation, negative, minus, plain, other_with, unary, products, product, sums, sum, comparisons, comparison, conjunctions, conjunction, disjunctions, conditional, expr_with, atom, conjunctions_of, conjunct, alternatives_of, formula_with, parameters, kind, message, whole, whole_formula, whole_unbracketed, rhythm, pacing, part_behind, more_parts, one_part, forked, parts, with_parts, spawn, eval, close, short_eval, body, inputs, constant, output, trigger, declaration, specification, open_operand, open_expr, closed, unbracketed}
 use Rattle.lola_parser_grammar.proofs.Same.{SameBelow, SameAlways, same_self, same_less, same_map, same_then, same_behind, same_either, same_maybe, same_known, same_many, tallied_spends, always_self, always_whole, always_known, always_map, always_then, always_either, always_maybe, always_many, always_fork}
 use Rattle.lola_parser_grammar.proofs.Depth.{level_tallies, formula_tallies}
-use Rattle.lola_parser_grammar.specs.Grammar.{all_nestings, place, Operator, join, with_default, folded, joined, joined_once, listed, further, either, both, level, formula_level, expr_in, other_in, formula_in, ◌*>◌, ◌<*◌, ◌|>◌, ◌>>◌, token, nesting, word, name, integer, text, quantity, operator, product_operators, sum_operators, comparison_operators, and_operators, or_operators, word_literal, offset, over, window, arguments, stand_in, hold, get, last, default, reading, dotted_default, defaults, dotted, suffix, named, number, worded, bracketed, operand, negation, negative, minus, plain, other_with, unary, products, product, sums, sum, comparisons, comparison, conjunctions, conjunction, disjunctions, conditional, expr_with, atom, conjunctions_of, conjunct, alternatives_of, formula_with, parameters, kind, message, whole, whole_formula, whole_unbracketed, rhythm, pacing, part_behind, more_parts, one_part, forked, parts, with_parts, spawn, eval, close, short_eval, body, inputs, constant, output, trigger, declaration, specification, open_operand, open_expr, closed, unbracketed}
 
 -- ---- what nests nothing
 

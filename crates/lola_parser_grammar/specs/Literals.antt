@@ -3,8 +3,8 @@ use Rattle.std.specs.Prelude.{ℕ, ◌+◌, ◌-◌, ◌*◌, ◌^◌, min, Bool
 use Rattle.std.specs.List.{prefix_len}
 use Rattle.std.specs.Str.{bytes_eq}
 use Rattle.std.specs.Char.{is_ascii_digit, is_ascii_alphabetic}
-use Rattle.lola_parser_tree.specs.declared.literals.QuantityUnit.{QuantityUnit}
-use Rattle.lola_parser_tree.specs.declared.literals.QuantityUnit.TheVariants as unit
+use Rattle.lola_parser_grammar.specs.declared.literals.QuantityUnit.{QuantityUnit}
+use Rattle.lola_parser_grammar.specs.declared.literals.QuantityUnit.TheVariants as unit
 
 abbrev pub greatest : ℕ
 greatest = 2 ^ 128 - 1

@@ -3,15 +3,15 @@ use Rattle.std.proofs.Common.{◌≡◌, ℕ, zero, suc, Bool, true, false, List
 use Rattle.std.specs.Prelude.{codes}
 use Rattle.lola_lexer.specs.declared.shape.TokenShape.{TokenShape}
 use Rattle.lola_lexer.specs.declared.shape.TokenShape.TheVariants as is
-use Rattle.lola_parser_tree.specs.declared.literals.Name.{Name}
-use Rattle.lola_parser_tree.specs.declared.literals.Quantity.{Quantity}
-use Rattle.lola_parser_tree.specs.declared.expressions.Prefix.TheVariants as pre
-use Rattle.lola_parser_tree.specs.declared.expressions.Binary.{Binary}
-use Rattle.lola_parser_tree.specs.declared.expressions.Binary.TheVariants as by
-use Rattle.lola_parser_tree.specs.declared.expressions.Access.{Access}
-use Rattle.lola_parser_tree.specs.declared.expressions.Access.TheVariants as a
-use Rattle.lola_parser_tree.specs.declared.expressions.Expr.{Expr}
-use Rattle.lola_parser_tree.specs.declared.expressions.Expr.TheVariants as e
+use Rattle.lola_parser_grammar.specs.declared.literals.Name.{Name}
+use Rattle.lola_parser_grammar.specs.declared.literals.Quantity.{Quantity}
+use Rattle.lola_parser_grammar.specs.declared.expressions.Prefix.TheVariants as pre
+use Rattle.lola_parser_grammar.specs.declared.expressions.Binary.{Binary}
+use Rattle.lola_parser_grammar.specs.declared.expressions.Binary.TheVariants as by
+use Rattle.lola_parser_grammar.specs.declared.expressions.Access.{Access}
+use Rattle.lola_parser_grammar.specs.declared.expressions.Access.TheVariants as a
+use Rattle.lola_parser_grammar.specs.declared.expressions.Expr.{Expr}
+use Rattle.lola_parser_grammar.specs.declared.expressions.Expr.TheVariants as e
 use Rattle.lola_parser_grammar.specs.Syntax.{Syntax, Then, Map, Either, Maybe}
 use Rattle.lola_parser_grammar.specs.Grammar as g
 use Rattle.lola_parser_grammar.specs.Grammar.{token, nesting, word, ◌*>◌, ◌<*◌, ◌|>◌, ◌>>◌, Operator, Joined}

@@ -3,7 +3,7 @@ use Rattle.std.proofs.Common.{◌≡◌, ℕ, suc, ◌<◌, ◌≤◌, true, Lis
 use Rattle.std.proofs.lemmas.List.{append-nil, append_cancel_right}
 use Rattle.lola_value.specs.declared.front.FrontEnd.{FrontEnd}
 use Rattle.lola_value.specs.declared.front.FrontEnd.TheVariants as front_end
-use Rattle.lola_parser_tree.specs.declared.declarations.Declaration.{Declaration}
+use Rattle.lola_parser_grammar.specs.declared.declarations.Declaration.{Declaration}
 use Rattle.lola_parser_grammar.specs.Syntax.{Lexeme, Refusal, Unexpected, TooDeep, Terminal, Syntax, Outcome, Spells, is_fine, max_nestings, read, all_read, read_all}
 use Rattle.lola_parser_grammar.specs.Nestings.{is_counted}
 use Rattle.lola_parser_grammar.proofs.Complete.{complete}

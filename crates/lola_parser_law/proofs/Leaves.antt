@@ -11,11 +11,11 @@ use Rattle.lola_lexer.specs.declared.shape.TokenShape.TheVariants as is
 use Rattle.lola_lexer.specs.Spelling.{IsWord, IsDigits, IsQuantity, IsToken}
 use Rattle.lola_lexer.specs.Lexical.{shape_of_word}
 use Rattle.lola_lexer.proofs.Words.{word_shape}
-use Rattle.lola_parser_tree.specs.declared.literals.Name.{Name}
-use Rattle.lola_parser_tree.specs.declared.literals.Quantity.{Quantity}
-use Rattle.lola_parser_tree.specs.declared.literals.Literal.{Literal}
-use Rattle.lola_parser_tree.specs.declared.literals.Value.{Value}
-use Rattle.lola_parser_tree.specs.declared.literals.Value.TheVariants as value
+use Rattle.lola_parser_grammar.specs.declared.literals.Name.{Name}
+use Rattle.lola_parser_grammar.specs.declared.literals.Quantity.{Quantity}
+use Rattle.lola_parser_grammar.specs.declared.literals.Literal.{Literal}
+use Rattle.lola_parser_grammar.specs.declared.literals.Value.{Value}
+use Rattle.lola_parser_grammar.specs.declared.literals.Value.TheVariants as value
 use Rattle.lola_parser_grammar.specs.Syntax.{Lexeme, Of, Other, fits, same_shape, is_among, Token, Then, Map}
 use Rattle.lola_parser_grammar.proofs.Tests.{shape_is}
 use Rattle.lola_parser_grammar.specs.Literals.{number_of, text_of_literal}

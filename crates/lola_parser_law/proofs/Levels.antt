@@ -2,11 +2,11 @@
 use Rattle.std.proofs.Common.{◌≡◌, ℕ, zero, suc, ◌≤◌, ◌<◌, Bool, true, false, List, [], ◌∷◌, ◌++◌, refl, subst, arith, inl, inr, ◌⊎◌}
 use Rattle.std.proofs.lemmas.Bool.{cases_lt}
 use Rattle.lola_lexer.specs.declared.shape.TokenShape.TheVariants as is
-use Rattle.lola_parser_tree.specs.declared.expressions.Prefix.TheVariants as pre
-use Rattle.lola_parser_tree.specs.declared.expressions.Binary.{Binary}
-use Rattle.lola_parser_tree.specs.declared.expressions.Binary.TheVariants as by
-use Rattle.lola_parser_tree.specs.declared.expressions.Expr.{Expr}
-use Rattle.lola_parser_tree.specs.declared.expressions.Expr.TheVariants as e
+use Rattle.lola_parser_grammar.specs.declared.expressions.Prefix.TheVariants as pre
+use Rattle.lola_parser_grammar.specs.declared.expressions.Binary.{Binary}
+use Rattle.lola_parser_grammar.specs.declared.expressions.Binary.TheVariants as by
+use Rattle.lola_parser_grammar.specs.declared.expressions.Expr.{Expr}
+use Rattle.lola_parser_grammar.specs.declared.expressions.Expr.TheVariants as e
 use Rattle.lola_parser_grammar.specs.Syntax.{Lexeme, Syntax, Then, Spells}
 use Rattle.lola_parser_grammar.specs.Grammar as g
 use Rattle.lola_parser_grammar.specs.Grammar.{token, nesting, join, ◌*>◌, ◌<*◌, ◌|>◌, ◌>>◌}

@@ -1,8 +1,8 @@
 -- Behind `with`, an expression or a list of them.
 use Rattle.std.proofs.Common.{◌≡◌, inl, inr, ℕ, suc, ◌+◌, true, List, [], ◌∷◌, ◌++◌, refl, ap, ◌∙◌, arith}
 use Rattle.lola_lexer.specs.declared.shape.TokenShape.TheVariants as is
-use Rattle.lola_parser_tree.specs.declared.expressions.Expr.{Expr}
-use Rattle.lola_parser_tree.specs.declared.clauses.Part.{Part}
+use Rattle.lola_parser_grammar.specs.declared.expressions.Expr.{Expr}
+use Rattle.lola_parser_grammar.specs.declared.clauses.Part.{Part}
 use Rattle.lola_parser_grammar.specs.Syntax.{Lexeme, Of, fits, Syntax, Whole, Then, Map, Many, Spells}
 use Rattle.lola_parser_grammar.specs.Nestings.{Fits, nestings_in}
 use Rattle.lola_parser_grammar.proofs.Within.{nestings-append}

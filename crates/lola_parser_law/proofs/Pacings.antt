@@ -2,14 +2,14 @@
 use Rattle.std.proofs.Common.{◌≡◌, ℕ, zero, suc, List, [], ◌∷◌, refl, sym, ap, subst, ◌∙◌}
 use Rattle.std.specs.Prelude.{codes}
 use Rattle.lola_lexer.specs.declared.shape.TokenShape.TheVariants as is
-use Rattle.lola_parser_tree.specs.declared.literals.Name.{Name}
-use Rattle.lola_parser_tree.specs.declared.literals.Quantity.{Quantity}
-use Rattle.lola_parser_tree.specs.declared.pacing.Formula.{Formula}
-use Rattle.lola_parser_tree.specs.declared.pacing.Formula.TheVariants as f
-use Rattle.lola_parser_tree.specs.declared.pacing.Formula.TheBlock as X
-use Rattle.lola_parser_tree.specs.declared.pacing.Rhythm.{Rhythm}
-use Rattle.lola_parser_tree.specs.declared.pacing.Rhythm.TheVariants as r
-use Rattle.lola_parser_tree.specs.declared.pacing.Pacing.{Pacing}
+use Rattle.lola_parser_grammar.specs.declared.literals.Name.{Name}
+use Rattle.lola_parser_grammar.specs.declared.literals.Quantity.{Quantity}
+use Rattle.lola_parser_grammar.specs.declared.pacing.Formula.{Formula}
+use Rattle.lola_parser_grammar.specs.declared.pacing.Formula.TheVariants as f
+use Rattle.lola_parser_grammar.specs.declared.pacing.Formula.TheBlock as X
+use Rattle.lola_parser_grammar.specs.declared.pacing.Rhythm.{Rhythm}
+use Rattle.lola_parser_grammar.specs.declared.pacing.Rhythm.TheVariants as r
+use Rattle.lola_parser_grammar.specs.declared.pacing.Pacing.{Pacing}
 use Rattle.lola_parser_grammar.specs.Syntax.{Syntax, Then, Map, Whole}
 use Rattle.lola_parser_grammar.specs.Grammar as g
 use Rattle.lola_parser_grammar.specs.Grammar.{token, nesting, word, ◌*>◌, ◌<*◌, ◌|>◌, all_nestings}

@@ -2,8 +2,8 @@
 use Rattle.std.proofs.Common.{ℕ}
 use Rattle.lola_lexer.specs.declared.shape.TokenShape.{TokenShape}
 use Rattle.lola_lexer.specs.declared.shape.TokenShape.TheVariants as is
-use Rattle.lola_parser_tree.specs.declared.expressions.Expr.{Expr}
-use Rattle.lola_parser_tree.specs.declared.pacing.Formula.{Formula}
+use Rattle.lola_parser_grammar.specs.declared.expressions.Expr.{Expr}
+use Rattle.lola_parser_grammar.specs.declared.pacing.Formula.{Formula}
 use Rattle.lola_parser_grammar.specs.Syntax.{Syntax, Whole, Either, Spells}
 use Rattle.lola_parser_grammar.specs.Nestings.{Fits}
 use Rattle.lola_parser_grammar.specs.Grammar as g

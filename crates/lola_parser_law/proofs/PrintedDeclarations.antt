@@ -1,20 +1,20 @@
 -- What is printed of declarations spells them.
 use Rattle.std.proofs.Common.{◌≡◌, ℕ, suc, ◌<◌, true, false, List, [], ◌∷◌, ◌++◌, map, length, Option, Some, None, refl, sym, subst, append-nil, arith, inl, inr}
 use Rattle.lola_lexer.specs.declared.shape.TokenShape.TheVariants as is
-use Rattle.lola_parser_tree.specs.declared.literals.Name.{Name}
-use Rattle.lola_parser_tree.specs.declared.literals.Typed.{Typed}
-use Rattle.lola_parser_tree.specs.declared.literals.Value.{Value}
-use Rattle.lola_parser_tree.specs.declared.literals.Value.TheVariants as value
-use Rattle.lola_parser_tree.specs.declared.pacing.Pacing.{Pacing}
-use Rattle.lola_parser_tree.specs.declared.clauses.Part.{Part}
-use Rattle.lola_parser_tree.specs.declared.clauses.Spawn.{Spawn}
-use Rattle.lola_parser_tree.specs.declared.clauses.Eval.{Eval}
-use Rattle.lola_parser_tree.specs.declared.clauses.Close.{Close}
-use Rattle.lola_parser_tree.specs.declared.declarations.Constant.{Constant}
-use Rattle.lola_parser_tree.specs.declared.declarations.Output.{Output}
-use Rattle.lola_parser_tree.specs.declared.declarations.Trigger.{Trigger}
-use Rattle.lola_parser_tree.specs.declared.declarations.Declaration.{Declaration}
-use Rattle.lola_parser_tree.specs.declared.declarations.Declaration.TheVariants as d
+use Rattle.lola_parser_grammar.specs.declared.literals.Name.{Name}
+use Rattle.lola_parser_grammar.specs.declared.literals.Typed.{Typed}
+use Rattle.lola_parser_grammar.specs.declared.literals.Value.{Value}
+use Rattle.lola_parser_grammar.specs.declared.literals.Value.TheVariants as value
+use Rattle.lola_parser_grammar.specs.declared.pacing.Pacing.{Pacing}
+use Rattle.lola_parser_grammar.specs.declared.clauses.Part.{Part}
+use Rattle.lola_parser_grammar.specs.declared.clauses.Spawn.{Spawn}
+use Rattle.lola_parser_grammar.specs.declared.clauses.Eval.{Eval}
+use Rattle.lola_parser_grammar.specs.declared.clauses.Close.{Close}
+use Rattle.lola_parser_grammar.specs.declared.declarations.Constant.{Constant}
+use Rattle.lola_parser_grammar.specs.declared.declarations.Output.{Output}
+use Rattle.lola_parser_grammar.specs.declared.declarations.Trigger.{Trigger}
+use Rattle.lola_parser_grammar.specs.declared.declarations.Declaration.{Declaration}
+use Rattle.lola_parser_grammar.specs.declared.declarations.Declaration.TheVariants as d
 use Rattle.lola_parser_grammar.specs.Syntax.{Lexeme, Then, Maybe, Many, Spells}
 use Rattle.lola_parser_grammar.specs.Grammar as g
 use Rattle.lola_parser_grammar.specs.Grammar.{token, nesting, ◌*>◌, ◌<*◌}

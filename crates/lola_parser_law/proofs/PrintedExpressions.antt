@@ -2,18 +2,18 @@
 use Rattle.std.proofs.Common.{◌≡◌, ℕ, zero, suc, ◌≤◌, Bool, true, false, true≢false, ◌||◌, List, [], ◌∷◌, ◌++◌, Option, Some, None, refl, sym, ap, subst, ◌∙◌, append_assoc, arith, inl, inr, ltb-false, ltb-true, lt-ltb}
 use Rattle.std.specs.Prelude.{nat_lt}
 use Rattle.lola_lexer.specs.declared.shape.TokenShape.TheVariants as is
-use Rattle.lola_parser_tree.specs.declared.literals.Literal.{Literal}
-use Rattle.lola_parser_tree.specs.declared.literals.Value.{Value}
-use Rattle.lola_parser_tree.specs.declared.literals.Value.TheVariants as value
-use Rattle.lola_parser_tree.specs.declared.expressions.Access.{Access}
-use Rattle.lola_parser_tree.specs.declared.expressions.Access.TheVariants as a
-use Rattle.lola_parser_tree.specs.declared.expressions.Prefix.TheVariants as pre
-use Rattle.lola_parser_tree.specs.declared.expressions.Binary.{Binary}
-use Rattle.lola_parser_tree.specs.declared.expressions.Binary.TheVariants as by
-use Rattle.lola_parser_tree.specs.declared.expressions.Expr.{Expr, Row_of-Expr, more_of-Expr, end_of-Expr}
-use Rattle.lola_parser_tree.specs.declared.expressions.Expr.TheVariants as e
-use Rattle.lola_parser_tree.specs.declared.expressions.Expr.TheBlock as X
-use Rattle.lola_parser_tree.specs.declared.literals.Name.{Name}
+use Rattle.lola_parser_grammar.specs.declared.literals.Literal.{Literal}
+use Rattle.lola_parser_grammar.specs.declared.literals.Value.{Value}
+use Rattle.lola_parser_grammar.specs.declared.literals.Value.TheVariants as value
+use Rattle.lola_parser_grammar.specs.declared.expressions.Access.{Access}
+use Rattle.lola_parser_grammar.specs.declared.expressions.Access.TheVariants as a
+use Rattle.lola_parser_grammar.specs.declared.expressions.Prefix.TheVariants as pre
+use Rattle.lola_parser_grammar.specs.declared.expressions.Binary.{Binary}
+use Rattle.lola_parser_grammar.specs.declared.expressions.Binary.TheVariants as by
+use Rattle.lola_parser_grammar.specs.declared.expressions.Expr.{Expr, Row_of-Expr, more_of-Expr, end_of-Expr}
+use Rattle.lola_parser_grammar.specs.declared.expressions.Expr.TheVariants as e
+use Rattle.lola_parser_grammar.specs.declared.expressions.Expr.TheBlock as X
+use Rattle.lola_parser_grammar.specs.declared.literals.Name.{Name}
 use Rattle.lola_parser_grammar.specs.Syntax.{Lexeme, Syntax, Maybe, Many, Spells}
 use Rattle.lola_parser_grammar.specs.Grammar as g
 use Rattle.lola_parser_grammar.specs.Grammar.{token, nesting, reference, expr_in, other_in, ◌*>◌, ◌<*◌}

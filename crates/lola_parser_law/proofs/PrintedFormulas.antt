@@ -3,10 +3,10 @@ use Rattle.std.proofs.Common.{◌≡◌, ℕ, zero, suc, ◌≤◌, ◌<◌, Boo
 use Rattle.std.specs.Prelude.{nat_lt}
 use Rattle.std.proofs.lemmas.Bool.{cases_lt}
 use Rattle.lola_lexer.specs.declared.shape.TokenShape.TheVariants as is
-use Rattle.lola_parser_tree.specs.declared.literals.Name.{Name}
-use Rattle.lola_parser_tree.specs.declared.pacing.Formula.{Formula, more_of-Formula, end_of-Formula}
-use Rattle.lola_parser_tree.specs.declared.pacing.Formula.TheVariants as f
-use Rattle.lola_parser_tree.specs.declared.pacing.Formula.TheBlock as X
+use Rattle.lola_parser_grammar.specs.declared.literals.Name.{Name}
+use Rattle.lola_parser_grammar.specs.declared.pacing.Formula.{Formula, more_of-Formula, end_of-Formula}
+use Rattle.lola_parser_grammar.specs.declared.pacing.Formula.TheVariants as f
+use Rattle.lola_parser_grammar.specs.declared.pacing.Formula.TheBlock as X
 use Rattle.lola_parser_grammar.specs.Syntax.{Lexeme, Syntax, Then, Spells}
 use Rattle.lola_parser_grammar.specs.Grammar as g
 use Rattle.lola_parser_grammar.specs.Grammar.{token, nesting, formula_in, ◌*>◌, ◌<*◌}

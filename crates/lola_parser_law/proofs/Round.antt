@@ -1,6 +1,6 @@
 -- The round trip.
 use Rattle.std.proofs.Common.{◌≡◌, ℕ, suc, ◌+◌, ◌≤◌, List, map, Ok, sym, ap, ◌∙◌, arith}
-use Rattle.lola_parser_tree.specs.declared.declarations.Declaration.{Declaration}
+use Rattle.lola_parser_grammar.specs.declared.declarations.Declaration.{Declaration}
 use Rattle.lola_parser_grammar.specs.Syntax.{Lexeme, max_nestings, read_all}
 use Rattle.lola_parser_grammar.specs.Nestings.{Fits}
 use Rattle.lola_parser_grammar.proofs.All.{fitting_is_read}

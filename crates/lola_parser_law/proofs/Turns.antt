@@ -2,7 +2,7 @@
 use Rattle.std.proofs.Common.{◌≡◌, inl, inr, List, ◌++◌, refl, sym, ap, ◌∙◌, append_assoc}
 use Rattle.std.specs.Prelude.{fold}
 use Rattle.lola_parser_grammar.specs.Syntax.{Lexeme, Syntax, Then, Map, Either, Maybe, Many, Spells}
-use Rattle.lola_parser_tree.specs.declared.expressions.Expr.{Expr}
+use Rattle.lola_parser_grammar.specs.declared.expressions.Expr.{Expr}
 use Rattle.lola_parser_grammar.specs.Grammar.{◌|>◌, ◌>>◌, folded, Operator, Joined, compared, joined_once}
 use Rattle.lola_parser_law.specs.Plain.{from_left}
 use Rattle.lola_parser_law.proofs.PlainWithin.{Within, Same, within_map, within_then, within_many, same_chain, same_map, same_then, same_either, same_maybe}

@@ -1,9 +1,9 @@
 -- Parts of the plain grammar over parts that spell more.
 use Rattle.std.proofs.Common.{inl, inr, [], None, refl, sym}
 use Rattle.std.proofs.lemmas.List.{append-nil}
-use Rattle.lola_parser_tree.specs.declared.literals.Literal.{Literal}
-use Rattle.lola_parser_tree.specs.declared.expressions.Expr.{Expr}
-use Rattle.lola_parser_tree.specs.declared.pacing.Formula.{Formula}
+use Rattle.lola_parser_grammar.specs.declared.literals.Literal.{Literal}
+use Rattle.lola_parser_grammar.specs.declared.expressions.Expr.{Expr}
+use Rattle.lola_parser_grammar.specs.declared.pacing.Formula.{Formula}
 use Rattle.lola_parser_grammar.specs.Syntax.{Syntax, Then, Spells}
 use Rattle.lola_parser_grammar.specs.Grammar.{◌*>◌, ◌<*◌, truth_at, listed}
 use Rattle.lola_parser_law.specs.Plain.{from_left, literal, other_literal, stand_in, access, ref, prim, default, post, not_unary, minus_unary, unary_with, other_with, prod, sum, cmp, and, or, expr_with, innermost, atom, conj, form_with}

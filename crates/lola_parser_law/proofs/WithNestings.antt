@@ -1,7 +1,7 @@
 -- The nesting before the one at which reading ended, where that one is always the next behind the first one too many.
 use Rattle.std.proofs.Common.{◌≡◌, ℕ, ◌+◌, ◌≤◌, Bool, true, false, List, [], ◌∷◌, ◌++◌, length, Some, None, Err, refl, sym, ap, subst, ◌∙◌, append_assoc, arith, inl, inr}
 use Rattle.std.proofs.lemmas.List.{append-nil, length-append}
-use Rattle.lola_parser_tree.specs.declared.declarations.Declaration.{Declaration}
+use Rattle.lola_parser_grammar.specs.declared.declarations.Declaration.{Declaration}
 use Rattle.lola_parser_grammar.specs.Syntax.{Lexeme, TooDeep, Syntax, Past, Token, Nesting, Whole, Known, Then, Map, Either, Maybe, Many, Fork, Spells, max_nestings, read_all}
 use Rattle.lola_parser_grammar.specs.Nestings.{is_nesting, one_if, nestings_in}
 use Rattle.lola_parser_grammar.specs.Exceeding.{ExceedsAmong}

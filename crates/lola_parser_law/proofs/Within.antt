@@ -4,23 +4,23 @@ use Rattle.std.specs.Prelude.{codes}
 use Rattle.std.proofs.lemmas.Bool.{and_parts}
 use Rattle.lola_lexer.specs.declared.shape.TokenShape.{TokenShape}
 use Rattle.lola_lexer.specs.declared.shape.TokenShape.TheVariants as is
-use Rattle.lola_parser_tree.specs.declared.literals.Name.{Name}
-use Rattle.lola_parser_tree.specs.declared.literals.Typed.{Typed}
-use Rattle.lola_parser_tree.specs.declared.literals.Quantity.{Quantity}
-use Rattle.lola_parser_tree.specs.declared.expressions.Expr.{Expr}
-use Rattle.lola_parser_tree.specs.declared.pacing.Formula.{Formula}
-use Rattle.lola_parser_tree.specs.declared.pacing.Formula.TheVariants as f
-use Rattle.lola_parser_tree.specs.declared.pacing.Rhythm.{Rhythm}
-use Rattle.lola_parser_tree.specs.declared.pacing.Rhythm.TheVariants as r
-use Rattle.lola_parser_tree.specs.declared.pacing.Pacing.{Pacing}
-use Rattle.lola_parser_tree.specs.declared.clauses.Part.{Part}
-use Rattle.lola_parser_tree.specs.declared.clauses.Spawn.{Spawn}
-use Rattle.lola_parser_tree.specs.declared.clauses.Eval.{Eval}
-use Rattle.lola_parser_tree.specs.declared.clauses.Close.{Close}
-use Rattle.lola_parser_tree.specs.declared.declarations.Output.{Output}
-use Rattle.lola_parser_tree.specs.declared.declarations.Trigger.{Trigger}
-use Rattle.lola_parser_tree.specs.declared.declarations.Declaration.{Declaration}
-use Rattle.lola_parser_tree.specs.declared.declarations.Declaration.TheVariants as d
+use Rattle.lola_parser_grammar.specs.declared.literals.Name.{Name}
+use Rattle.lola_parser_grammar.specs.declared.literals.Typed.{Typed}
+use Rattle.lola_parser_grammar.specs.declared.literals.Quantity.{Quantity}
+use Rattle.lola_parser_grammar.specs.declared.expressions.Expr.{Expr}
+use Rattle.lola_parser_grammar.specs.declared.pacing.Formula.{Formula}
+use Rattle.lola_parser_grammar.specs.declared.pacing.Formula.TheVariants as f
+use Rattle.lola_parser_grammar.specs.declared.pacing.Rhythm.{Rhythm}
+use Rattle.lola_parser_grammar.specs.declared.pacing.Rhythm.TheVariants as r
+use Rattle.lola_parser_grammar.specs.declared.pacing.Pacing.{Pacing}
+use Rattle.lola_parser_grammar.specs.declared.clauses.Part.{Part}
+use Rattle.lola_parser_grammar.specs.declared.clauses.Spawn.{Spawn}
+use Rattle.lola_parser_grammar.specs.declared.clauses.Eval.{Eval}
+use Rattle.lola_parser_grammar.specs.declared.clauses.Close.{Close}
+use Rattle.lola_parser_grammar.specs.declared.declarations.Output.{Output}
+use Rattle.lola_parser_grammar.specs.declared.declarations.Trigger.{Trigger}
+use Rattle.lola_parser_grammar.specs.declared.declarations.Declaration.{Declaration}
+use Rattle.lola_parser_grammar.specs.declared.declarations.Declaration.TheVariants as d
 use Rattle.lola_parser_grammar.specs.Syntax.{Lexeme, Syntax, Past, Token, Nesting, Whole, Known, Then, Map, Either, Maybe, Many, Fork, Repeats, Spells, max_nestings}
 use Rattle.lola_parser_grammar.specs.Nestings as nestings
 use Rattle.lola_parser_grammar.specs.Nestings.{nestings_in}

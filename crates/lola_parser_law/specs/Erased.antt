@@ -1,30 +1,30 @@
 -- Trees whose places are left aside: all are 0.
 use Rattle.std.specs.Fmt.{decimal}
 use Rattle.std.specs.Prelude.{◌≡◌, ℕ, ◌+◌, suc, List, [], ◌∷◌, map, Option, Some, None}
-use Rattle.lola_parser_tree.specs.declared.literals.Name.{Name}
-use Rattle.lola_parser_tree.specs.declared.literals.Typed.{Typed}
-use Rattle.lola_parser_tree.specs.declared.literals.Literal.{Literal}
-use Rattle.lola_parser_tree.specs.declared.literals.Quantity.{Quantity}
-use Rattle.lola_parser_tree.specs.declared.literals.Value.{Value}
-use Rattle.lola_parser_tree.specs.declared.literals.Value.TheVariants as value
+use Rattle.lola_parser_grammar.specs.declared.literals.Name.{Name}
+use Rattle.lola_parser_grammar.specs.declared.literals.Typed.{Typed}
+use Rattle.lola_parser_grammar.specs.declared.literals.Literal.{Literal}
+use Rattle.lola_parser_grammar.specs.declared.literals.Quantity.{Quantity}
+use Rattle.lola_parser_grammar.specs.declared.literals.Value.{Value}
+use Rattle.lola_parser_grammar.specs.declared.literals.Value.TheVariants as value
 use Rattle.lola_parser_grammar.specs.Literals.{number_of, text_of_literal}
 use Rattle.lola_parser_grammar.specs.Grammar.{quantity_of}
 use Rattle.lola_parser_print.specs.Print as out
-use Rattle.lola_parser_tree.specs.declared.expressions.Access.{Access}
-use Rattle.lola_parser_tree.specs.declared.expressions.Access.TheVariants as a
-use Rattle.lola_parser_tree.specs.declared.expressions.Expr.{Expr, Row_of-Expr, more_of-Expr, end_of-Expr}
-use Rattle.lola_parser_tree.specs.declared.expressions.Expr.TheVariants as e
-use Rattle.lola_parser_tree.specs.declared.pacing.Formula.{Formula, more_of-Formula, end_of-Formula}
-use Rattle.lola_parser_tree.specs.declared.pacing.Formula.TheVariants as f
-use Rattle.lola_parser_tree.specs.declared.pacing.Rhythm.{Rhythm}
-use Rattle.lola_parser_tree.specs.declared.pacing.Rhythm.TheVariants as r
-use Rattle.lola_parser_tree.specs.declared.pacing.Pacing.{Pacing}
-use Rattle.lola_parser_tree.specs.declared.clauses.Part.{Part}
-use Rattle.lola_parser_tree.specs.declared.clauses.Spawn.{Spawn}
-use Rattle.lola_parser_tree.specs.declared.clauses.Eval.{Eval}
-use Rattle.lola_parser_tree.specs.declared.clauses.Close.{Close}
-use Rattle.lola_parser_tree.specs.declared.declarations.Declaration.{Declaration}
-use Rattle.lola_parser_tree.specs.declared.declarations.Declaration.TheVariants as d
+use Rattle.lola_parser_grammar.specs.declared.expressions.Access.{Access}
+use Rattle.lola_parser_grammar.specs.declared.expressions.Access.TheVariants as a
+use Rattle.lola_parser_grammar.specs.declared.expressions.Expr.{Expr, Row_of-Expr, more_of-Expr, end_of-Expr}
+use Rattle.lola_parser_grammar.specs.declared.expressions.Expr.TheVariants as e
+use Rattle.lola_parser_grammar.specs.declared.pacing.Formula.{Formula, more_of-Formula, end_of-Formula}
+use Rattle.lola_parser_grammar.specs.declared.pacing.Formula.TheVariants as f
+use Rattle.lola_parser_grammar.specs.declared.pacing.Rhythm.{Rhythm}
+use Rattle.lola_parser_grammar.specs.declared.pacing.Rhythm.TheVariants as r
+use Rattle.lola_parser_grammar.specs.declared.pacing.Pacing.{Pacing}
+use Rattle.lola_parser_grammar.specs.declared.clauses.Part.{Part}
+use Rattle.lola_parser_grammar.specs.declared.clauses.Spawn.{Spawn}
+use Rattle.lola_parser_grammar.specs.declared.clauses.Eval.{Eval}
+use Rattle.lola_parser_grammar.specs.declared.clauses.Close.{Close}
+use Rattle.lola_parser_grammar.specs.declared.declarations.Declaration.{Declaration}
+use Rattle.lola_parser_grammar.specs.declared.declarations.Declaration.TheVariants as d
 
 abbrev pub name : Name → Name
 name n = record { text = n.text; at = 0 }

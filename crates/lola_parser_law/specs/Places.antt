@@ -3,7 +3,7 @@ use Rattle.std.specs.Prelude.{◌≡◌, ℕ, ◌≤◌, List, [], ◌∷◌, le
 use Rattle.lola_lexer.specs.declared.token.Token.{Token}
 use Rattle.lola_lexer.specs.Spelling.{IsToken}
 use Rattle.lola_lexer.specs.Tokens.{tokens_of}
-use Rattle.lola_parser_tree.specs.declared.declarations.Declaration.{Declaration}
+use Rattle.lola_parser_grammar.specs.declared.declarations.Declaration.{Declaration}
 use Rattle.lola_parser_grammar.specs.Syntax.{Lexeme}
 use Rattle.lola_parser_grammar.specs.Cursor.{lexemes}
 use Rattle.lola_parser_print.specs.Print.{spelled_out}

@@ -5,25 +5,25 @@
 use Rattle.std.specs.Prelude.{ℕ, zero, suc, true, false, List, [], ◌∷◌, fold, Option, Some, None, codes}
 use Rattle.lola_lexer.specs.declared.shape.TokenShape.{TokenShape}
 use Rattle.lola_lexer.specs.declared.shape.TokenShape.TheVariants as is
-use Rattle.lola_parser_tree.specs.declared.literals.Name.{Name}
-use Rattle.lola_parser_tree.specs.declared.literals.Typed.{Typed}
-use Rattle.lola_parser_tree.specs.declared.literals.Literal.{Literal}
-use Rattle.lola_parser_tree.specs.declared.expressions.Prefix.TheVariants as pre
-use Rattle.lola_parser_tree.specs.declared.expressions.Binary.{Binary}
-use Rattle.lola_parser_tree.specs.declared.expressions.Binary.TheVariants as by
-use Rattle.lola_parser_tree.specs.declared.expressions.Access.TheVariants as a
-use Rattle.lola_parser_tree.specs.declared.expressions.Expr.{Expr}
-use Rattle.lola_parser_tree.specs.declared.expressions.Expr.TheVariants as e
-use Rattle.lola_parser_tree.specs.declared.pacing.Formula.{Formula}
-use Rattle.lola_parser_tree.specs.declared.pacing.Formula.TheVariants as f
-use Rattle.lola_parser_tree.specs.declared.pacing.Rhythm.TheVariants as r
-use Rattle.lola_parser_tree.specs.declared.pacing.Pacing.{Pacing}
-use Rattle.lola_parser_tree.specs.declared.clauses.Part.{Part}
-use Rattle.lola_parser_tree.specs.declared.clauses.Spawn.{Spawn}
-use Rattle.lola_parser_tree.specs.declared.clauses.Eval.{Eval}
-use Rattle.lola_parser_tree.specs.declared.clauses.Close.{Close}
-use Rattle.lola_parser_tree.specs.declared.declarations.Declaration.{Declaration}
-use Rattle.lola_parser_tree.specs.declared.declarations.Declaration.TheVariants as d
+use Rattle.lola_parser_grammar.specs.declared.literals.Name.{Name}
+use Rattle.lola_parser_grammar.specs.declared.literals.Typed.{Typed}
+use Rattle.lola_parser_grammar.specs.declared.literals.Literal.{Literal}
+use Rattle.lola_parser_grammar.specs.declared.expressions.Prefix.TheVariants as pre
+use Rattle.lola_parser_grammar.specs.declared.expressions.Binary.{Binary}
+use Rattle.lola_parser_grammar.specs.declared.expressions.Binary.TheVariants as by
+use Rattle.lola_parser_grammar.specs.declared.expressions.Access.TheVariants as a
+use Rattle.lola_parser_grammar.specs.declared.expressions.Expr.{Expr}
+use Rattle.lola_parser_grammar.specs.declared.expressions.Expr.TheVariants as e
+use Rattle.lola_parser_grammar.specs.declared.pacing.Formula.{Formula}
+use Rattle.lola_parser_grammar.specs.declared.pacing.Formula.TheVariants as f
+use Rattle.lola_parser_grammar.specs.declared.pacing.Rhythm.TheVariants as r
+use Rattle.lola_parser_grammar.specs.declared.pacing.Pacing.{Pacing}
+use Rattle.lola_parser_grammar.specs.declared.clauses.Part.{Part}
+use Rattle.lola_parser_grammar.specs.declared.clauses.Spawn.{Spawn}
+use Rattle.lola_parser_grammar.specs.declared.clauses.Eval.{Eval}
+use Rattle.lola_parser_grammar.specs.declared.clauses.Close.{Close}
+use Rattle.lola_parser_grammar.specs.declared.declarations.Declaration.{Declaration}
+use Rattle.lola_parser_grammar.specs.declared.declarations.Declaration.TheVariants as d
 use Rattle.lola_parser_grammar.specs.Syntax.{Syntax, Whole, Then, Map, Either, Maybe, Many}
 use Rattle.lola_parser_grammar.specs.Grammar.{token, word, name, other_name, integer, text, quantity, ◌*>◌, ◌<*◌, enclosed, listed, whole_number, truth_at, text_at, Operator, join, compared, Reading, or_else, with_default, Arguments, reference, both, either, clock_words, part, Body, bracket_of, parameters_of, parts_or_none, message_of}
 

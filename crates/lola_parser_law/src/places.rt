@@ -40,13 +40,13 @@ pub fn place_is_exact()
 
 /// Where the tokens are a specification, and a nesting in the tree that they spell is the 513th or a later one of a whole expression
 /// or formula, there is a place at which they are refused as too deep.
-pub fn late_is_placed()
+pub fn deep_is_placed()
     ensures { LateIsPlaced }
 {}
 
 /// Where the tokens are a specification with such a nesting, what `lola_parser` answers to them, if memory does not run out, is the
 /// refusal as too deep at the first such nesting. So a specification is refused as too deep exactly where a whole expression or
 /// formula in it has more than 512 nestings, and at the first 513th.
-pub fn first_late_is_refused()
+pub fn first_deep_is_refused()
     ensures { FirstLateIsRefused }
 {}

@@ -1,9 +1,9 @@
 -- How each form of a formula is printed.
 use Rattle.std.proofs.Common.{◌≡◌, ℕ, ◌∷◌, ◌++◌, refl}
 use Rattle.lola_lexer.specs.declared.shape.TokenShape.TheVariants as is
-use Rattle.lola_parser_tree.specs.declared.pacing.Formula.{Formula}
-use Rattle.lola_parser_tree.specs.declared.pacing.Formula.TheVariants as f
-use Rattle.lola_parser_tree.specs.declared.pacing.Formula.TheBlock as X
+use Rattle.lola_parser_grammar.specs.declared.pacing.Formula.{Formula}
+use Rattle.lola_parser_grammar.specs.declared.pacing.Formula.TheVariants as f
+use Rattle.lola_parser_grammar.specs.declared.pacing.Formula.TheBlock as X
 use Rattle.lola_parser_print.specs.Print.{lex, print_formula, bare_formula}
 
 pub bare_formula-Both : (at : ℕ) (x y : Formula) → bare_formula (f.Both at x y) ≡ print_formula x 1 ++ (lex is.And ∷ print_formula y 2)

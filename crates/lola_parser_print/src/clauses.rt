@@ -7,9 +7,9 @@ ghost use Rattle.lola_parser_print.specs.Print as out;
 
 use crate::expressions::{bare, open_if, shut_if};
 use crate::tokens::{put_name, put_quantity};
-use lola_parser_tree::clauses::{Close, Eval, Part, Spawn};
-use lola_parser_tree::literals::Quantity;
-use lola_parser_tree::pacing::{Formula, Pacing, Rhythm};
+use lola_parser_grammar::clauses::{Close, Eval, Part, Spawn};
+use lola_parser_grammar::literals::Quantity;
+use lola_parser_grammar::pacing::{Formula, Pacing, Rhythm};
 use lola_value::text::{Memory, Text};
 
 /// How tightly a formula binds.

@@ -7,9 +7,9 @@ ghost use Rattle.lola_parser_print.specs.Print as out;
 use crate::clauses::{close, eval, pacing, short_eval, spawn};
 use crate::expressions::{bare, literal};
 use crate::tokens::{put_name, put_text};
-use lola_parser_tree::clauses::{Close, Eval, Spawn};
-use lola_parser_tree::declarations::{Ast, Constant, Declaration, Output, Trigger};
-use lola_parser_tree::literals::{Name, Typed};
+use lola_parser_grammar::clauses::{Close, Eval, Spawn};
+use lola_parser_grammar::declarations::{Ast, Constant, Declaration, Output, Trigger};
+use lola_parser_grammar::literals::{Name, Typed};
 use lola_value::text::{Memory, Text};
 use std::alloc::Global;
 

@@ -5,11 +5,11 @@ ghost use Rattle.lola_lexer.specs.Spelling.{spelling};
 ghost use Rattle.lola_lexer.specs.declared.shape.TokenShape.TheVariants as is;
 ghost use Rattle.lola_parser_print.specs.Print as out;
 ghost use Rattle.lola_parser_print.specs.Print.{lex};
-ghost use Rattle.lola_parser_tree.specs.declared.expressions.Expr.TheVariants as e;
+ghost use Rattle.lola_parser_grammar.specs.declared.expressions.Expr.TheVariants as e;
 
 use crate::tokens::{put, put_name, put_number, put_quantity, put_text};
-use lola_parser_tree::expressions::{Access, Binary, Expr, Prefix};
-use lola_parser_tree::literals::{Name, Value};
+use lola_parser_grammar::expressions::{Access, Binary, Expr, Prefix};
+use lola_parser_grammar::literals::{Name, Value};
 use lola_value::text::{Memory, Text};
 
 /// How tightly an operator binds its operands.

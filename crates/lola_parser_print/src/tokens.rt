@@ -4,7 +4,7 @@ ghost use Rattle.std.specs.Prelude.{◌≡◌, ◌++◌, ◌∷◌, [], ◌-◌,
 ghost use Rattle.lola_parser_print.specs.Print as out;
 
 use itoa::Buffer;
-use lola_parser_tree::literals::{Name, Quantity, QuantityUnit};
+use lola_parser_grammar::literals::{Name, Quantity, QuantityUnit};
 use lola_value::text::{Memory, Text};
 
 pub(crate) fn put(token: &[u8], to: &mut Text) -> Result<(), Memory>

@@ -42,7 +42,7 @@ impl<R: Wait + Clone + Drop> Ahead<R> {
         let rt = asker.runtime().clone()?;
         let piece = Piece::create(alloc)?;
         let spare = Piece::create(alloc)?;
-        let shared = Arc::new(alloc, Shared::create(spare, bell.share()?))?;
+        let shared = Arc::new(alloc, Shared::create(spare, bell.another()?))?;
         let theirs = Arc::try_clone(&shared)?;
         let task = Task {
             shared: theirs,

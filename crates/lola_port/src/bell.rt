@@ -21,7 +21,7 @@ impl Bell {
     }
 
     /// The same bell, for another who rings it.
-    pub fn share(&self) -> Result<Bell, Memory> {
+    pub fn another(&self) -> Result<Bell, Memory> {
         Ok(Bell {
             bed: Arc::try_clone(&self.bed)?,
         })

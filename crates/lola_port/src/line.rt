@@ -6,8 +6,8 @@ pub enum Line {
     /// Nothing, at the very start, where a byte order mark is dropped.
     Start,
     /// The first byte of such a mark, or the first two: they are text where the others do not follow.
-    Mark,
-    MarkGoesOn,
+    ByteOrderMark,
+    ByteOrderMarkGoesOn,
     Nothing,
     /// A carriage return, which is dropped where the line ends behind it.
     Return,
@@ -21,16 +21,19 @@ impl Line {
         match (self, byte) {
             (_, b'\n') => Line::Nothing,
             (Line::Nothing | Line::Start, b'\r') => Line::Return,
-            (Line::Start, 0xEF) => Line::Mark,
-            (Line::Mark, 0xBB) => Line::MarkGoesOn,
-            (Line::MarkGoesOn, 0xBF) => Line::Nothing,
+            (Line::Start, 0xEF) => Line::ByteOrderMark,
+            (Line::ByteOrderMark, 0xBB) => Line::ByteOrderMarkGoesOn,
+            (Line::ByteOrderMarkGoesOn, 0xBF) => Line::Nothing,
             _ => Line::Text,
         }
     }
 
     // Whether a line feed ends a line that is not empty.
     fn has_text(self) -> bool {
-        matches!(self, Line::Text | Line::Mark | Line::MarkGoesOn)
+        matches!(
+            self,
+            Line::Text | Line::ByteOrderMark | Line::ByteOrderMarkGoesOn
+        )
     }
 
     /// Goes on with the next bytes, and tells behind how many of them the last line has ended that is not empty, if one has.

@@ -15,7 +15,7 @@ use Rattle.lola_model.specs.Texts.{table_lines}
 use Rattle.lola_model.specs.declared.journal.Entry.{Entry}
 use Rattle.lola_model.specs.declared.journal.Show.{Show}
 use Rattle.lola_model.specs.declared.plan.Plan.{Plan}
-use Rattle.lola_report_lines.specs.Ends.{done_text}
+use Rattle.lola_report.specs.Ends.{done_text}
 use Rattle.lola_replay.specs.Comparing.{IsCompared, IsComparedBy, comparison, line_long}
 use Rattle.lola_replay.specs.Ending.{FindsEnd, FindsVerdicts, HasMore, HasNoEnd, IsEndBy, IsEnded, IsLast}
 use Rattle.lola_replay.specs.Ends.{IsEndLine, IsEndOf, done_line, late_count}

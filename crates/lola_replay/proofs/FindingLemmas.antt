@@ -3,7 +3,7 @@ use Rattle.std.proofs.Common.{◌≡◌, ◌≢◌, ℕ, ◌+◌, ◌≤◌, Lis
 use Rattle.std.specs.Bool.{MatchBool}
 use Rattle.lola_model.specs.declared.journal.Entry.{Entry}
 use Rattle.lola_model.specs.declared.source.MalformedKind.{MalformedKind}
-use Rattle.lola_report_lines.specs.Ends.{malformed_text}
+use Rattle.lola_report.specs.Ends.{malformed_text}
 use Rattle.lola_value.specs.declared.text.Memory.{Memory}
 use Rattle.lola_replay.specs.EndLines.{IsMalformedAt, malformed_front, number_in}
 use Rattle.lola_replay.specs.Ending.{FindsVerdicts}

@@ -5,7 +5,7 @@ use Rattle.std.proofs.lemmas.Bool.{eq-eqb}
 use Rattle.std.specs.Prelude.{codes, get_or}
 use Rattle.csv.specs.Writing.{fields_text, is_blank}
 use Rattle.lola_value.specs.Times.{time_text}
-use Rattle.lola_report_lines.specs.Ends.{done_text}
+use Rattle.lola_report.specs.Ends.{done_text}
 use Rattle.lola_value.specs.declared.value.FaultKind.TheVariants as fault
 use Rattle.lola_model.specs.declared.journal.Entry.{Entry}
 use Rattle.lola_model.specs.declared.journal.Mark.{Mark}

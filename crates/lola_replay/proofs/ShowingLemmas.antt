@@ -8,7 +8,7 @@ use Rattle.lola_model.specs.declared.journal.Show.TheVariants.{Triggers, Outputs
 use Rattle.lola_model.specs.declared.spec.Sort.{Sort}
 use Rattle.lola_model.specs.declared.spec.Sort.TheVariants as sort
 use Rattle.lola_model.specs.declared.spec.Stream.{Stream}
-use Rattle.lola_report_lines.specs.Verdicts.{HasVerdict, IsShown, line_of_sort, verdict_text}
+use Rattle.lola_report.specs.Verdicts.{HasVerdict, IsShown, line_of_sort, verdict_text}
 use Rattle.lola_replay.specs.Showing.{is_shown}
 
 module _ (show : Show) (time : ℕ) (s : Stream) (p : List Field) where

@@ -10,8 +10,8 @@ use Rattle.lola_model.specs.declared.source.MalformedKind.{MalformedKind}
 use Rattle.lola_model.specs.declared.source.MalformedKind.TheVariants as malformed
 use Rattle.lola_report.specs.Candidates.{read_natural}
 use Rattle.lola_report.proofs.Decimals.{decimal-spells, natural-back, number-within}
-use Rattle.lola_report_lines.specs.Ends.{malformed_text}
-use Rattle.lola_report_lines.specs.Names.{malformed_name, malformed_number}
+use Rattle.lola_report.specs.Ends.{malformed_text}
+use Rattle.lola_report.specs.Names.{malformed_name, malformed_number}
 use Rattle.lola_replay.specs.EndLines.{IsMalformedAt, kind_at, malformed_front, number_in, word_long}
 use Rattle.lola_replay.specs.Ends.{most_rows}
 

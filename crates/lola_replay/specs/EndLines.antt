@@ -4,7 +4,7 @@ use Rattle.lola_value.specs.declared.value.Kind.TheVariants as kind
 use Rattle.lola_model.specs.declared.source.MalformedKind.{MalformedKind}
 use Rattle.lola_model.specs.declared.source.MalformedKind.TheVariants as malformed
 use Rattle.lola_report.specs.Candidates.{read_natural}
-use Rattle.lola_report_lines.specs.Ends.{malformed_text}
+use Rattle.lola_report.specs.Ends.{malformed_text}
 use Rattle.lola_replay.specs.Ends.{most_rows}
 
 -- how many bytes stand before the first space

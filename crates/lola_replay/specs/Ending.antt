@@ -5,7 +5,7 @@ use Rattle.lola_model.specs.Runs.{final_lines, first_fault, whole_model}
 use Rattle.lola_model.specs.declared.journal.Entry.{Entry}
 use Rattle.lola_model.specs.declared.journal.Show.{Show}
 use Rattle.lola_model.specs.declared.plan.Plan.{Plan}
-use Rattle.lola_report_lines.specs.Ends.{done_text}
+use Rattle.lola_report.specs.Ends.{done_text}
 use Rattle.lola_replay.specs.Comparing.{IsComparedBy}
 use Rattle.lola_replay.specs.Ends.{IsMalformedLine, IsUnreadableLine, fault_line}
 use Rattle.lola_replay.specs.LinesOf.{IsFirstLine, lines_of}

@@ -17,7 +17,7 @@ use lola_model::journal::{Entry, Mark, Row};
 use lola_model::law::one_model_of_accepted;
 use lola_model::spec::Kinds;
 use lola_report::kinds_of;
-use lola_report::line::{LineScratch, entry_of};
+use lola_report::line::{LineRoom, entry_of};
 use lola_value::text::Memory;
 
 /// How far a run is replayed.
@@ -36,7 +36,7 @@ pub struct ReplayedRun<'a> {
 pub struct Reader {
     /// The kinds of the inputs.
     pub kinds: Kinds,
-    room: LineScratch,
+    room: LineRoom,
 }
 
 impl Reader {
@@ -46,7 +46,7 @@ impl Reader {
     {
         Ok(Reader {
             kinds: kinds_of(course.alloc, course.plan.spec.streams.as_slice())?,
-            room: LineScratch::create(course.alloc)?,
+            room: LineRoom::create(course.alloc)?,
         })
     }
 }

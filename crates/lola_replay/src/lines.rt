@@ -4,7 +4,7 @@ ghost use Rattle.std.specs.Prelude.{◌≡◌, ◌≤◌, ◌<◌, ◌+◌, ◌^
 ghost use Rattle.lola_model.specs.Texts.{answer_lines, value_lines};
 ghost use Rattle.lola_replay_step.specs.Rests.{known_lines, life_lines};
 ghost use Rattle.lola_replay_step.specs.StepFaults.{outcome_known};
-ghost use Rattle.lola_report_lines.specs.Verdicts.{HasVerdict, verdict_text};
+ghost use Rattle.lola_report.specs.Verdicts.{HasVerdict, verdict_text};
 ghost use Rattle.lola_replay.specs.Comparing.{after_line, after_lines, comparison};
 ghost use Rattle.lola_replay.specs.Showing.{is_shown, is_true, shows_outputs};
 
@@ -14,7 +14,7 @@ use lola_model::plan::Plan;
 use lola_model::spec::{Sort, Stream};
 use lola_replay_table::answer::KeptAnswer;
 use lola_replay_table::table::{KnownLife, KnownStream};
-use lola_report_lines::verdict::verdict_line;
+use lola_report::verdict::verdict_line;
 use lola_value::text::{Field, Fields, Memory, Text};
 
 // Whether outputs are shown.
@@ -126,7 +126,7 @@ fn compare_life<'a>(
             compared,
         ),
         Some(KeptAnswer::Missing) => Ok(compared),
-        Some(KeptAnswer::Failed(_)) => Ok(compared),
+        Some(KeptAnswer::Fault(_)) => Ok(compared),
         Some(KeptAnswer::Poisoned) => Ok(compared),
         None => Ok(compared),
     }

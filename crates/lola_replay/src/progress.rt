@@ -22,7 +22,7 @@ use lola_model::plan::Plan;
 use lola_replay_step::due::due;
 use lola_replay_step::fault::StepFault;
 use lola_replay_step::law::due_is_known;
-use lola_replay_step::whole::{StepScratch, answer_step, fresh, rest};
+use lola_replay_step::whole::{StepRoom, answer_step, fresh, rest};
 use lola_replay_table::scene::{ReplayedStep, present};
 use lola_replay_table::table::{KnownRun, KnownStream};
 use lola_value::text::{Memory, Text};
@@ -63,7 +63,7 @@ pub struct Progress<'a> {
     /// How far the verdicts are compared.
     pub compared: Compared<'a>,
     /// Room that is kept from step to step.
-    pub room: StepScratch,
+    pub room: StepRoom,
     /// The line that is compared.
     pub line: Text,
 }
@@ -396,7 +396,7 @@ pub fn begin<'a>(course: &Course, verdicts: &'a [u8]) -> Result<Progress<'a>, Me
         steps: 0,
         rows: 0,
         compared: uncompared(verdicts),
-        room: StepScratch::create(course.alloc),
+        room: StepRoom::create(course.alloc),
         line: Text::from_bytes(course.alloc, b"")?,
     })
 }

@@ -5,14 +5,14 @@ ghost use Rattle.std.specs.Bool.{MatchBool};
 ghost use Rattle.lola_value.specs.declared.value.Kind.TheVariants as kind;
 ghost use Rattle.lola_model.specs.declared.source.MalformedKind.{MalformedKind};
 ghost use Rattle.lola_report.specs.Candidates.{read_natural};
-ghost use Rattle.lola_report_lines.specs.Ends.{done_text, end_text, malformed_text};
+ghost use Rattle.lola_report.specs.Ends.{done_text, end_text, malformed_text};
 ghost use Rattle.lola_replay.specs.Ends.{IsMalformedLine, IsUnreadableLine, fault_line, name_in};
 ghost use Rattle.lola_replay.specs.EndLines.{IsMalformedAt, kind_at, malformed_front, number_in, word_long};
 ghost use Rattle.lola_replay.specs.Progressing.{the_run_fault};
 
 use crate::progress::{Course, Fault};
 use lola_model::source::MalformedKind;
-use lola_report_lines::end::{EndLine, end_line};
+use lola_report::end::{EndLine, end_line};
 use lola_rows::numbers::number;
 use lola_value::numbers::number_text;
 use lola_value::text::{Memory, Text};

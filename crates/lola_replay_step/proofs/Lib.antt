@@ -8,7 +8,7 @@ pub mod ClauseLemmas
 pub mod Ranks
 pub mod OpenQuestions
 pub mod StaysLemmas
-pub mod Settling
+pub mod Underway
 pub mod Passing
 pub mod PassingLives
 pub mod AllAnswered

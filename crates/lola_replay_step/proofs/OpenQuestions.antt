@@ -127,7 +127,7 @@ born-if false time p = omega arith
 born-weight : (time : ℕ) (sp : KeptSpawn) (ls : List KnownLife) → lives_weight (born_lives time sp ls) ≤ 1
 born-weight time (spawn.Named p) ls = born-if (not (is_known_among p ls) && nat_lt (length ls) most_instances) time p
 born-weight time spawn.Idle ls = omega arith
-born-weight time (spawn.Failed k) ls = omega arith
+born-weight time (spawn.Fault k) ls = omega arith
 born-weight time spawn.Poisoned ls = omega arith
 
 pub weight-spawn : (known : List KnownStream) (n time : ℕ) (sp : KeptSpawn) → IsOpenSpawn known n → open_weight (changed_at n (with_spawn time sp) known) < open_weight known
@@ -190,7 +190,7 @@ module _ (rows : List TableRow) (time n : ℕ) (comes : Instance → Answer) whe
       (ap (λ b. not b && nat_lt (length xs) most_instances) (sym (among-known rows time n comes p xs ls knows))
       ∙ ap (λ m. not (is_known_among p ls) && nat_lt m most_instances) (sym (known-length rows time n comes xs ls knows)))
   born-known spawn.Idle xs ls knows = tt
-  born-known (spawn.Failed k) xs ls knows = tt
+  born-known (spawn.Fault k) xs ls knows = tt
   born-known spawn.Poisoned xs ls knows = tt
 
 module _ (plan : Plan) (start : ℕ) (rows : List TableRow) (step : Step) (row : TableRow) where

@@ -4,7 +4,7 @@ use Rattle.std.proofs.lemmas.Option.{slice_get_within}
 use Rattle.lola_model.specs.Table.{Step}
 use Rattle.lola_model.specs.declared.plan.Plan.{Plan}
 use Rattle.lola_replay_table.specs.Open.{IsOpen, IsOpenOutcome, IsOpenSpawn}
-use Rattle.lola_replay_step.specs.SettlingOf.{KeepsKnowing, PassesOutcome, Settles, SettlesAll, SettlesLives, SettlesOutcomes, SettlesSpawns, is_open_at, is_open_life, lives_at}
+use Rattle.lola_replay_step.specs.AnsweringOf.{KeepsKnowing, PassesOutcome, AnswersQuestion, AnswersAll, AnswersLivesOf, AnswersOutcomes, AnswersSpawns, is_open_at, is_open_life, lives_at}
 use Rattle.lola_replay_table.specs.declared.answer.KeptAnswer.{KeptAnswer}
 use Rattle.lola_replay_table.specs.declared.question.Question.{Question}
 use Rattle.lola_replay_table.specs.declared.question.Question.TheVariants.{SpawnOf, OutcomeOf}
@@ -58,7 +58,7 @@ module _ (plan : Plan) (start : ℕ) (step : Step) where
     stay = λ q open-q. is.stay q (pass.stay q open-q);
   }
 
-  pub all-lives : (number : ℕ) (before after : List KnownStream) (place : ℕ) → AreLivesBelow number before after place → lives_at (slice_get before number) ≤ place → SettlesLives plan start step number before after
+  pub all-lives : (number : ℕ) (before after : List KnownStream) (place : ℕ) → AreLivesBelow number before after place → lives_at (slice_get before number) ≤ place → AnswersLivesOf plan start step number before after
   all-lives number before after place is past = record {
     keeps = is.keeps;
     long = is.long;
@@ -70,9 +70,9 @@ module _ (plan : Plan) (start : ℕ) (step : Step) where
     stay = is.stay;
   }
 
-  -- one that is settled is passed, where no spawn clause is open
-  pub settled-outcome : (number place : ℕ) (before after : List KnownStream) → ((n : ℕ) → ¬ (IsOpenSpawn before n)) → Settles plan start step (OutcomeOf number place) before after → PassesOutcome plan start step number place before after
-  settled-outcome number place before after none is = record { keeps = is.keeps; long = is.long; answered = is.answered; stay = is.all_stay none }
+  -- one that is answered is passed, where no spawn clause is open
+  pub question-outcome : (number place : ℕ) (before after : List KnownStream) → ((n : ℕ) → ¬ (IsOpenSpawn before n)) → AnswersQuestion plan start step (OutcomeOf number place) before after → PassesOutcome plan start step number place before after
+  question-outcome number place before after none is = record { keeps = is.keeps; long = is.long; answered = is.answered; stay = is.all_stay none }
 
   pub answered-outcome : (number place : ℕ) (known : List KnownStream) → ¬ (IsOpenOutcome known number place) → PassesOutcome plan start step number place known known
   answered-outcome number place known done = record { keeps = λ rows row moment solves knows. knows; long = refl; answered = done; stay = λ q is. is }
@@ -88,7 +88,7 @@ module _ (plan : Plan) (start : ℕ) (step : Step) where
   pub no-streams : (known : List KnownStream) → AreStreamsBelow known known 0
   no-streams known = record { keeps = λ rows row moment solves knows. knows; long = refl; below = λ m j low. absurd (omega (arith, low)); stay = λ q is. is }
 
-  pub one-more-stream : (before known after : List KnownStream) (number : ℕ) → AreStreamsBelow before known number → SettlesLives plan start step number known after → AreStreamsBelow before after (number + 1)
+  pub one-more-stream : (before known after : List KnownStream) (number : ℕ) → AreStreamsBelow before known number → AnswersLivesOf plan start step number known after → AreStreamsBelow before after (number + 1)
   one-more-stream before known after number is lives = record {
     keeps = λ rows row moment solves knows. lives.keeps rows row moment solves (is.keeps rows row moment solves knows);
     long = lives.long ∙ is.long;
@@ -99,7 +99,7 @@ module _ (plan : Plan) (start : ℕ) (step : Step) where
     stay = λ q open-q. is.stay q (lives.stay q open-q);
   }
 
-  pub all-streams : (before after : List KnownStream) (number : ℕ) → AreStreamsBelow before after number → length after ≤ number → SettlesOutcomes plan start step before after
+  pub all-streams : (before after : List KnownStream) (number : ℕ) → AreStreamsBelow before after number → length after ≤ number → AnswersOutcomes plan start step before after
   all-streams before after number is past = record {
     keeps = is.keeps;
     long = is.long;
@@ -107,8 +107,8 @@ module _ (plan : Plan) (start : ℕ) (step : Step) where
     stay = is.stay;
   }
 
-  pub settles-all : (before known after : List KnownStream) → SettlesSpawns plan start step before known → SettlesOutcomes plan start step known after → SettlesAll plan start step before after
-  settles-all before known after spawns outcomes = record {
+  pub answers-all : (before known after : List KnownStream) → AnswersSpawns plan start step before known → AnswersOutcomes plan start step known after → AnswersAll plan start step before after
+  answers-all before known after spawns outcomes = record {
     keeps = λ rows row moment solves knows. outcomes.keeps rows row moment solves (spawns.keeps rows row moment solves knows);
     long = outcomes.long ∙ spawns.long;
     answered = each;

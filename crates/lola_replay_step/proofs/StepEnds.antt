@@ -37,7 +37,7 @@ use Rattle.lola_replay_table.specs.declared.table.KnownStream.{KnownStream}
 use Rattle.lola_replay_step.specs.Agreements.{Knows, KnowsFrom, Solves}
 use Rattle.lola_replay_step.specs.Closings.{closed_from, closed_of, closes_by, closes_to, failed_of, fault_or, first_closing, least_closing, least_of}
 use Rattle.lola_replay_step.specs.Rests.{AreBornIn, IsAnswered, IsFirst, IsPlaced, RestLives, Rests, RestsFrom, RestsLife, Judged, begun, fault_known, fresh_from, known_lines, life_lines, rested_all}
-use Rattle.lola_replay_step.specs.SettlingOf.{SettlesAll}
+use Rattle.lola_replay_step.specs.AnsweringOf.{AnswersAll}
 use Rattle.lola_replay_step.specs.StepFaults.{first_known, outcome_known, the_fault}
 use Rattle.lola_replay_step.specs.declared.fault.StepFault.{StepFault}
 use Rattle.lola_replay_step.proofs.AllAnswered.{AnswersFrom, AnswersLife, AnswersLives, all-answered}
@@ -98,7 +98,7 @@ placed-more (r ∷ rs) row x h = (let long = length-append rs (row ∷ []) in om
 given-of : (t : ℕ) (a : KeptAnswer) → filter_map (λ (o : Option (ℕ × Field)). o) (timed t (kept_answer a) ∷ []) ≡ given_at t (Some a)
 given-of t (kept.Given v) = refl
 given-of t kept.Missing = refl
-given-of t (kept.Failed k) = refl
+given-of t (kept.Fault k) = refl
 given-of t kept.Poisoned = refl
 
 given-now : (t : ℕ) (x : Answer) (o : Option KeptAnswer) (a : KeptAnswer) → o ≡ Some a → x ≡ kept_answer a
@@ -278,7 +278,7 @@ none-first None b e = refl
 none-first (Some f) b e = absurd (cc e)
 
 module _ (plan : Plan) (acyclic : IsAcyclic plan.spec) (start : ℕ) (step : Step) (rows : List TableRow) (born : AreBornIn rows) (first : Bool) (is : IsFirst first rows)
-    (before after : List KnownStream) (rested : Rests plan rows before) (settles : SettlesAll plan start step (begun plan first step.time before) after) where
+    (before after : List KnownStream) (rested : Rests plan rows before) (settles : AnswersAll plan start step (begun plan first step.time before) after) where
   lawful : IsRow plan start rows step (answered plan start rows step)
   lawful = (has-row plan acyclic start).solves rows step
 

@@ -1,5 +1,5 @@
 pub mod Agreements
-pub mod SettlingOf
+pub mod AnsweringOf
 pub mod Stacks
 pub mod Closings
 pub mod StepFaults

@@ -175,7 +175,7 @@ fn named(params: Fields, lives: &[KnownLife]) -> KeptSpawn
     ensures { kept_spawn result ≡ named_among params lives.now }
 {
     if lives.len() >= MOST_INSTANCES && !is_among(params.as_slice(), lives) {
-        KeptSpawn::Failed(FaultKind::TooManyInstances)
+        KeptSpawn::Fault(FaultKind::TooManyInstances)
     } else {
         KeptSpawn::Named(params)
     }
@@ -188,7 +188,7 @@ fn unnamed(answer: LentAnswer) -> KeptSpawn
     match answer {
         LentAnswer::Given(_) => KeptSpawn::Poisoned,
         LentAnswer::Missing => KeptSpawn::Idle,
-        LentAnswer::Failed(kind) => KeptSpawn::Failed(kind),
+        LentAnswer::Fault(kind) => KeptSpawn::Fault(kind),
         LentAnswer::Poisoned => KeptSpawn::Poisoned,
     }
 }
@@ -257,7 +257,7 @@ fn spawn_when<'a>(
         LentAnswer::Given(LentField::Bool(true)) => named_by(scene, clause.with.as_slice(), lives),
         LentAnswer::Given(_) => Ok(KeptSpawn::Idle),
         LentAnswer::Missing => Ok(KeptSpawn::Idle),
-        LentAnswer::Failed(kind) => Ok(KeptSpawn::Failed(kind)),
+        LentAnswer::Fault(kind) => Ok(KeptSpawn::Fault(kind)),
         LentAnswer::Poisoned => Ok(KeptSpawn::Poisoned),
     }
 }

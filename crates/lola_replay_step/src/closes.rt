@@ -93,7 +93,7 @@ fn closes_by(answer: LentAnswer) -> bool
         LentAnswer::Given(LentField::Bool(b)) => b,
         LentAnswer::Given(_) => false,
         LentAnswer::Missing => false,
-        LentAnswer::Failed(_) => false,
+        LentAnswer::Fault(_) => false,
         LentAnswer::Poisoned => false,
     }
 }

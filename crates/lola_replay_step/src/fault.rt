@@ -23,7 +23,7 @@ pub fn kind_of(answer: LentAnswer) -> Option<FaultKind>
     ensures { result ≡ failed_of (the_answer answer.entry) }
 {
     match answer {
-        LentAnswer::Failed(kind) => Some(kind),
+        LentAnswer::Fault(kind) => Some(kind),
         LentAnswer::Given(_) => None,
         LentAnswer::Missing => None,
         LentAnswer::Poisoned => None,
@@ -72,7 +72,7 @@ fn failed(outcome: &Option<KeptAnswer>) -> Option<FaultKind>
     ensures { result ≡ failed_of (outcome_known outcome.now) }
 {
     match outcome {
-        Some(KeptAnswer::Failed(kind)) => Some(*kind),
+        Some(KeptAnswer::Fault(kind)) => Some(*kind),
         Some(KeptAnswer::Given(_)) => None,
         Some(KeptAnswer::Missing) => None,
         Some(KeptAnswer::Poisoned) => None,
@@ -96,7 +96,7 @@ fn own(stream: &KnownStream) -> Option<FaultKind>
     ensures { result ≡ own_by stream.now.spawned (least_known None stream.now.lives) }
 {
     match &stream.spawned {
-        Some(KeptSpawn::Failed(kind)) => Some(*kind),
+        Some(KeptSpawn::Fault(kind)) => Some(*kind),
         Some(KeptSpawn::Idle) => least_known(stream.lives.as_slice()),
         Some(KeptSpawn::Named(_)) => least_known(stream.lives.as_slice()),
         Some(KeptSpawn::Poisoned) => least_known(stream.lives.as_slice()),

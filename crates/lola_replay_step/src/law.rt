@@ -6,7 +6,7 @@ ghost use Rattle.lola_model.specs.Model.{last_row};
 ghost use Rattle.lola_model.specs.NextStep.{due, open_from};
 ghost use Rattle.lola_model.specs.Table.{Step, TableRow};
 ghost use Rattle.lola_replay_table.specs.Open.{IsOpen};
-ghost use Rattle.lola_replay_step.specs.SettlingOf.{IsTriedFor, KeepsKnowing, Notes, plan_rank};
+ghost use Rattle.lola_replay_step.specs.AnsweringOf.{IsTriedFor, KeepsKnowing, Notes, plan_rank};
 ghost use Rattle.lola_replay_table.specs.declared.question.Question.{Question};
 ghost use Rattle.lola_replay_table.specs.declared.table.KnownStream.{KnownStream};
 ghost use Rattle.lola_replay_step.specs.Dues.{in_time, known_due};

@@ -8,6 +8,6 @@ pub mod closes;
 pub mod due;
 pub mod fault;
 pub mod law;
-pub mod settle;
+pub mod questions;
 pub mod step;
 pub mod whole;

@@ -4,10 +4,10 @@ ghost use Rattle.std.specs.Prelude.{◌≡◌, ◌≤◌, ◌<◌, ℕ, length, 
 ghost use Rattle.lola_value.specs.Times.{latest};
 ghost use Rattle.lola_model.specs.Accepted.{HasLayers};
 ghost use Rattle.lola_replay_table.specs.Moments.{HasSet, the_step};
-ghost use Rattle.lola_replay_step.specs.SettlingOf.{PassesOutcome, PassesSpawn, SettlesAll, SettlesLives, SettlesOutcomes, SettlesSpawns, is_open_at, lives_at};
+ghost use Rattle.lola_replay_step.specs.AnsweringOf.{PassesOutcome, PassesSpawn, AnswersAll, AnswersLivesOf, AnswersOutcomes, AnswersSpawns, is_open_at, lives_at};
 ghost use Rattle.lola_replay_table.specs.Open.{IsOpenSpawn};
 
-use crate::settle::settle;
+use crate::questions::answer_question;
 use lola_model::plan::Plan;
 use lola_replay_table::question::Question;
 use lola_replay_table::scene::ReplayedStep;
@@ -32,7 +32,7 @@ fn pass_spawn(
     ensures { OnOk result (PassesSpawn plan.now moment.now.start (the_step moment.now) number known.old known.new) }
 {
     if known.as_slice()[number].spawned.is_none() {
-        settle(
+        answer_question(
             alloc,
             plan,
             moment,
@@ -57,7 +57,7 @@ pub fn answer_spawns(
     requires set { HasSet moment.now }
     requires layers { HasLayers plan.now }
     requires long { length known.old ≡ length plan.now.spec.streams }
-    ensures { OnOk result (SettlesSpawns plan.now moment.now.start (the_step moment.now) known.old known.new) }
+    ensures { OnOk result (AnswersSpawns plan.now moment.now.start (the_step moment.now) known.old known.new) }
 {
     let mut number = 0;
     while number < known.as_slice().len() {
@@ -108,7 +108,7 @@ fn pass_outcome(
     ensures { OnOk result (PassesOutcome plan.now moment.now.start (the_step moment.now) number place known.old known.new) }
 {
     if is_open(known.as_slice(), number, place) {
-        settle(
+        answer_question(
             alloc,
             plan,
             moment,
@@ -135,7 +135,7 @@ fn answer_lives(
     requires layers { HasLayers plan.now }
     requires long { length known.old ≡ length plan.now.spec.streams }
     requires spawned { (n : ℕ) → ¬ (IsOpenSpawn known.old n) }
-    ensures { OnOk result (SettlesLives plan.now moment.now.start (the_step moment.now) number known.old known.new) }
+    ensures { OnOk result (AnswersLivesOf plan.now moment.now.start (the_step moment.now) number known.old known.new) }
 {
     let lives = count(known.as_slice(), number);
     let mut place = 0;
@@ -159,7 +159,7 @@ fn answer_outcomes(
     requires layers { HasLayers plan.now }
     requires long { length known.old ≡ length plan.now.spec.streams }
     requires spawned { (n : ℕ) → ¬ (IsOpenSpawn known.old n) }
-    ensures { OnOk result (SettlesOutcomes plan.now moment.now.start (the_step moment.now) known.old known.new) }
+    ensures { OnOk result (AnswersOutcomes plan.now moment.now.start (the_step moment.now) known.old known.new) }
 {
     let mut number = 0;
     while number < known.as_slice().len() {
@@ -181,7 +181,7 @@ pub fn answer_all(
     requires set { HasSet moment.now }
     requires layers { HasLayers plan.now }
     requires long { length known.old ≡ length plan.now.spec.streams }
-    ensures { OnOk result (SettlesAll plan.now moment.now.start (the_step moment.now) known.old known.new) }
+    ensures { OnOk result (AnswersAll plan.now moment.now.start (the_step moment.now) known.old known.new) }
 {
     answer_spawns(alloc, plan, moment, known, waiting)?;
     answer_outcomes(alloc, plan, moment, known, waiting)?;

@@ -163,17 +163,17 @@ fn judge(
 
 /// Room that is kept from step to step.
 #[derive(Drop)]
-pub struct StepScratch {
+pub struct StepRoom {
     /// Questions that wait.
     pub waiting: Vec<Question>,
     /// Which instances a step closes, in the order of the streams and of their births.
     pub closed: Vec<bool>,
 }
 
-impl StepScratch {
+impl StepRoom {
     /// Room that grows with the steps.
-    pub fn create(alloc: Global) -> StepScratch {
-        StepScratch {
+    pub fn create(alloc: Global) -> StepRoom {
+        StepRoom {
             waiting: Vec::new(alloc),
             closed: Vec::new(alloc),
         }
@@ -188,7 +188,7 @@ pub fn answer_step(
     moment: &ReplayedStep,
     first: bool,
     known: &mut KnownRun,
-    room: &mut StepScratch,
+    room: &mut StepRoom,
 ) -> Result<Option<StepFault>, Memory>
     requires in_time { moment.now.time ≤ latest }
     requires set { HasSet moment.now }

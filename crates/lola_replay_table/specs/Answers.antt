@@ -29,21 +29,21 @@ the_field (lent.Text t) = field.Text t.now
 abbrev pub the_answer : LentAnswer → Answer
 the_answer (lent_answer.Given v) = Given (the_field v)
 the_answer lent_answer.Missing = Missing
-the_answer (lent_answer.Failed k) = Failed k
+the_answer (lent_answer.Fault k) = Failed k
 the_answer lent_answer.Poisoned = Poisoned
 
 -- the outcome that is kept
 abbrev pub kept_answer : KeptAnswer → Answer
 kept_answer (kept.Given v) = Given v
 kept_answer kept.Missing = Missing
-kept_answer (kept.Failed k) = Failed k
+kept_answer (kept.Fault k) = Failed k
 kept_answer kept.Poisoned = Poisoned
 
 -- what a spawn clause did
 abbrev pub kept_spawn : KeptSpawn → Spawned
 kept_spawn spawn.Idle = Idle
 kept_spawn (spawn.Named p) = Named p
-kept_spawn (spawn.Failed k) = SpawnFailed k
+kept_spawn (spawn.Fault k) = SpawnFailed k
 kept_spawn spawn.Poisoned = SpawnPoisoned
 
 -- an operator between two numbers

@@ -22,7 +22,7 @@ pub enum LentField<'a> {
 pub enum LentAnswer<'a> {
     Given(LentField<'a>),
     Missing,
-    Failed(FaultKind),
+    Fault(FaultKind),
     Poisoned,
 }
 
@@ -31,7 +31,7 @@ pub enum LentAnswer<'a> {
 pub enum KeptAnswer {
     Given(Field),
     Missing,
-    Failed(FaultKind),
+    Fault(FaultKind),
     Poisoned,
 }
 
@@ -72,7 +72,7 @@ pub fn keep(alloc: Global, answer: LentAnswer) -> Result<KeptAnswer, Memory>
             Ok(KeptAnswer::Given(kept))
         }
         LentAnswer::Missing => Ok(KeptAnswer::Missing),
-        LentAnswer::Failed(kind) => Ok(KeptAnswer::Failed(kind)),
+        LentAnswer::Fault(kind) => Ok(KeptAnswer::Fault(kind)),
         LentAnswer::Poisoned => Ok(KeptAnswer::Poisoned),
     }
 }
@@ -88,7 +88,7 @@ impl KeptAnswer {
         match self {
             KeptAnswer::Given(field) => LentAnswer::Given(lend(field)),
             KeptAnswer::Missing => LentAnswer::Missing,
-            KeptAnswer::Failed(kind) => LentAnswer::Failed(*kind),
+            KeptAnswer::Fault(kind) => LentAnswer::Fault(*kind),
             KeptAnswer::Poisoned => LentAnswer::Poisoned,
         }
     }
@@ -100,7 +100,7 @@ impl KeptAnswer {
         match self {
             KeptAnswer::Given(field) => LentAnswer::Given(lend(field)),
             KeptAnswer::Missing => LentAnswer::Missing,
-            KeptAnswer::Failed(_) => LentAnswer::Poisoned,
+            KeptAnswer::Fault(_) => LentAnswer::Poisoned,
             KeptAnswer::Poisoned => LentAnswer::Poisoned,
         }
     }

@@ -93,12 +93,12 @@ pub fn calculation<'a>(r: Result<i128, FaultKind>) -> LentAnswer<'a>
 {
     match r {
         Ok(z) => LentAnswer::Given(LentField::Int(z)),
-        Err(k) => LentAnswer::Failed(k),
+        Err(k) => LentAnswer::Fault(k),
     }
 }
 
 // A truth value, as an outcome.
-fn verdict<'a>(b: bool) -> LentAnswer<'a>
+fn truth<'a>(b: bool) -> LentAnswer<'a>
     ensures { the_answer result ≡ truth b }
 {
     LentAnswer::Given(LentField::Bool(b))
@@ -134,10 +134,10 @@ fn on_numbers<'a>(operator: Binary, kind: Kind, a: i128, b: i128) -> LentAnswer<
         Binary::Mul => calculation(product(kind, a, b)),
         Binary::Div => calculation(quotient(kind, a, b)),
         Binary::Rem => calculation(remainder(kind, a, b)),
-        Binary::Less => verdict(a < b),
-        Binary::LessEqual => verdict(a <= b),
-        Binary::Greater => verdict(b < a),
-        Binary::GreaterEqual => verdict(b <= a),
+        Binary::Less => truth(a < b),
+        Binary::LessEqual => truth(a <= b),
+        Binary::Greater => truth(b < a),
+        Binary::GreaterEqual => truth(b <= a),
         _ => LentAnswer::Missing,
     }
 }
@@ -153,8 +153,8 @@ pub fn operate<'a>(
     ensures { the_answer result ≡ operated operator kind (the_field a.entry) (the_field b.entry) }
 {
     match operator {
-        Binary::Equal => verdict(equal(a, b)),
-        Binary::Different => verdict(!equal(a, b)),
+        Binary::Equal => truth(equal(a, b)),
+        Binary::Different => truth(!equal(a, b)),
         Binary::And => LentAnswer::Given(b),
         Binary::Or => LentAnswer::Given(b),
         _ => match (a, b) {
@@ -169,7 +169,7 @@ pub fn negate<'a>(operator: Prefix, kind: Kind, a: LentField<'a>) -> LentAnswer<
     ensures { the_answer result ≡ negated operator kind (the_field a.entry) }
 {
     match (operator, a) {
-        (Prefix::Not, LentField::Bool(b)) => verdict(!b),
+        (Prefix::Not, LentField::Bool(b)) => truth(!b),
         (Prefix::Minus, LentField::Int(z)) => calculation(opposite(kind, z)),
         _ => LentAnswer::Missing,
     }

@@ -137,7 +137,7 @@ pub enum KeptSpawn {
     Idle,
     /// It named an instance by these parameters.
     Named(Fields),
-    Failed(FaultKind),
+    Fault(FaultKind),
     Poisoned,
 }
 
@@ -152,7 +152,7 @@ impl KeptSpawn {
         match self {
             KeptSpawn::Idle => false,
             KeptSpawn::Named(_) => false,
-            KeptSpawn::Failed(_) => true,
+            KeptSpawn::Fault(_) => true,
             KeptSpawn::Poisoned => true,
         }
     }
@@ -275,7 +275,7 @@ impl KnownLife {
         match outcome {
             Some(KeptAnswer::Given(value)) => self.earlier.push(time, value),
             Some(KeptAnswer::Missing) => Ok(()),
-            Some(KeptAnswer::Failed(_)) => Ok(()),
+            Some(KeptAnswer::Fault(_)) => Ok(()),
             Some(KeptAnswer::Poisoned) => Ok(()),
             None => Ok(()),
         }

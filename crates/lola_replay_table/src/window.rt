@@ -130,7 +130,7 @@ fn over_outcome(
     ensures { IfOk result (λ a. the_answer a ≡ window_over moment.now.start moment.now.time window.now kind earlier.now (the_answer outcome.entry)) }
 {
     match outcome {
-        LentAnswer::Failed(_) => Ok(LentAnswer::Poisoned),
+        LentAnswer::Fault(_) => Ok(LentAnswer::Poisoned),
         LentAnswer::Poisoned => Ok(LentAnswer::Poisoned),
         _ => over_values(window, kind, moment, earlier, outcome),
     }

@@ -11,10 +11,10 @@ use Rattle.std.proofs.lemmas.List.Sums.{position_or_len_is}
 use Rattle.std.proofs.lemmas.List.Elements.{Contains-append_left, Contains-append_right, Contains-push}
 use Rattle.lola_model.proofs.Strictly.{Contains-cases, Contains-none}
 use Rattle.lola_value.specs.Times.{is_digit, is_point}
-use Rattle.lola_report_lines.proofs.Mild.{Mild, is_mild}
 use Rattle.lola_rows.specs.Line.{ends_line, has_line_end}
 use Rattle.lola_rows.proofs.LineFacts.{any-at}
 use Rattle.lola_report.specs.Journals.{is_lf}
+use Rattle.lola_report.proofs.Mild.{Mild, is_mild}
 
 digit-range : (b : ℕ) → is_digit b ≡ true → (48 ≤ b) × (b ≤ 57)
 digit-range b h = let p = and_parts _ _ h in (leb-true _ _ p.0, leb-true _ _ p.1)

@@ -13,7 +13,7 @@ use Rattle.lola_value.specs.Times.{is_digit, time_text}
 use Rattle.lola_model.specs.declared.journal.Entry.{Entry}
 use Rattle.lola_model.specs.declared.plan.Plan.{Plan}
 use Rattle.lola_model.specs.Trace.{IsTraceable, entry_fields, field_bytes, mark_text, trace_line, trace_text}
-use Rattle.lola_report_lines.proofs.Mild.{decimal_mild, mild_unquoted}
+use Rattle.lola_report.proofs.Mild.{decimal_mild, mild_unquoted}
 use Rattle.lola_report.proofs.Decimals.{decimal-some, decimal-spells}
 use Rattle.lola_report.proofs.FieldLines.{content, line-content}
 

@@ -14,9 +14,9 @@ use Rattle.lola_value.specs.declared.value.Kind.{Kind}
 use Rattle.lola_value.specs.Times.{time_text}
 use Rattle.lola_model.specs.declared.journal.Entry.{Entry}
 use Rattle.lola_model.specs.Trace.{IsFieldOf, IsTraceableText, entry_fields, field_bytes, mark_text, trace_line}
-use Rattle.lola_report_lines.proofs.Mild.{bool_mild, decimal_mild, integer_mild, mark_mild, mild_unquoted, time_mild}
 use Rattle.lola_rows.specs.Line.{fields_of_line, fields_read, has_line_end}
 use Rattle.lola_rows.proofs.LineFacts.{ends-field, line-begins}
+use Rattle.lola_report.proofs.Mild.{bool_mild, decimal_mild, integer_mild, mark_mild, mild_unquoted, time_mild}
 use Rattle.lola_report.proofs.Bytes.{line-append, mild-one-line, none-from}
 
 -- the line of an entry without its LF

@@ -6,3 +6,12 @@ pub mod ReadBack
 pub mod CsvRows
 pub mod Lines
 pub mod Texts
+pub mod Sequences
+pub mod Runs
+pub mod Mild
+pub mod Plain
+pub mod Joined
+pub mod Rows
+pub mod LineForms
+pub mod Marks
+pub mod Heads

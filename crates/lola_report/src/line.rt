@@ -7,9 +7,9 @@ ghost use Rattle.lola_report.specs.Candidates.{candidate_of};
 ghost use Rattle.lola_report.specs.Journals.{ReadsLine};
 
 use crate::candidate::entry;
+use crate::trace::trace_line;
 use csv::ByteRecord;
 use lola_model::journal::Entry;
-use lola_report_lines::trace::trace_line;
 use lola_rows::line::{has_line_end, read_line};
 use lola_value::text::{Memory, Text};
 use lola_value::value::Kind;
@@ -17,16 +17,16 @@ use std::alloc::Global;
 
 /// Room that is kept from line to line: for the fields of a line, and for the line of the entry that it is taken for.
 #[derive(Drop)]
-pub struct LineScratch {
+pub struct LineRoom {
     fields: ByteRecord,
     spare: Vec<u8>,
     written: Text,
 }
 
-impl LineScratch {
+impl LineRoom {
     /// Room that grows with the lines.
-    pub fn create(alloc: Global) -> Result<LineScratch, Memory> {
-        Ok(LineScratch {
+    pub fn create(alloc: Global) -> Result<LineRoom, Memory> {
+        Ok(LineRoom {
             fields: ByteRecord::new(alloc),
             spare: Vec::new(alloc),
             written: Text::from_bytes(alloc, b"")?,
@@ -39,7 +39,7 @@ fn candidate(
     alloc: Global,
     kinds: &[Kind],
     line: &[u8],
-    room: &mut LineScratch,
+    room: &mut LineRoom,
 ) -> Result<Option<Entry>, Memory>
     ensures { IfOk result (λ entry. entry ≡ candidate_of kinds.now line.now) }
 {
@@ -66,7 +66,7 @@ pub fn entry_of_line(
     kinds: &[Kind],
     line: &[u8],
     body: &[u8],
-    room: &mut LineScratch,
+    room: &mut LineRoom,
 ) -> Result<Option<Entry>, Memory>
     requires { line.now ≡ body.now ++ 10 ∷ [] }
     ensures { (plan : Plan) → input_kinds plan.spec.streams ≡ kinds.now → IfOk result (ReadsLine plan line.now) }
@@ -102,7 +102,7 @@ pub fn entry_of(
     alloc: Global,
     kinds: &[Kind],
     line: &[u8],
-    room: &mut LineScratch,
+    room: &mut LineRoom,
 ) -> Result<Option<Entry>, Memory>
     ensures { (plan : Plan) → input_kinds plan.spec.streams ≡ kinds.now → IfOk result (ReadsLine plan line.now) }
 {

@@ -6,7 +6,7 @@ ghost use Rattle.lola_model.specs.declared.plan.Plan.{Plan};
 ghost use Rattle.lola_model.specs.Trace.{input_kinds};
 ghost use Rattle.lola_report.specs.Journals.{Fills, Reads, is_lf};
 
-use crate::line::{LineScratch, entry_of_line};
+use crate::line::{LineRoom, entry_of_line};
 use lola_model::journal::Journal;
 use lola_model::plan::Plan;
 use lola_model::spec::{Kinds, Sort, Stream};
@@ -78,7 +78,7 @@ fn fill(
     alloc: Global,
     kinds: &[Kind],
     bytes: &[u8],
-    room: &mut LineScratch,
+    room: &mut LineRoom,
     journal: &mut Journal,
 ) -> Result<(), JournalEnd>
     requires { journal.old ≡ [] }
@@ -107,7 +107,7 @@ pub fn journal(alloc: Global, plan: &Plan, bytes: &[u8]) -> Result<Journal, Jour
     ensures { Reads plan.now bytes.now result }
 {
     let kinds = kinds_of(alloc, plan.spec.streams.as_slice())?;
-    let mut room = LineScratch::create(alloc)?;
+    let mut room = LineRoom::create(alloc)?;
     let mut journal = Journal::create(alloc);
     fill(alloc, kinds.as_slice(), bytes, &mut room, &mut journal)?;
     Ok(journal)

@@ -12,8 +12,8 @@ use Rattle.lola_model.specs.Runs.{rested_life, rested_stream}
 use Rattle.lola_model.specs.Store.{Layout, Memories, Seen, SeenInstance, SeenStream, instances_of, StandForLives, StandForStreams, StandsForLife, instances_seen, now_at, now_seen, start_seen, time_seen}
 use Rattle.lola_save_text.specs.declared.forms.StreamForm.{StreamForm}
 use Rattle.lola_save_text.specs.declared.state.SavedInstance.{SavedInstance}
-use Rattle.lola_save_law.specs.JournalStates.{last_values, saved_life, saved_streams}
-use Rattle.lola_save_law.specs.PaneFolds.{panes_of}
+use Rattle.lola_save_text.specs.JournalStates.{last_values, saved_life, saved_streams}
+use Rattle.lola_save_text.specs.PaneFolds.{panes_of}
 use Rattle.lola_save.specs.Fitting.{AreStreamsOf}
 use Rattle.lola_save.specs.Taken.{AreStreamsTaken, AreTaken, IsTaken, life_by_now}
 

@@ -21,9 +21,9 @@ use Rattle.lola_save_text.specs.Fitting.{is_last}
 use Rattle.lola_save_text.specs.Forms.{forms_of}
 use Rattle.lola_save_text.specs.Validity.{IsSaved}
 use Rattle.lola_save_text.specs.declared.state.SavedState.{SavedState}
-use Rattle.lola_save_law.specs.FirstStates.{first_state}
-use Rattle.lola_save_law.specs.JournalStates.{IsJournalOf, state_of}
-use Rattle.lola_save_law.specs.Restored.{IsRestoredFrom, StandsForJournals}
+use Rattle.lola_save_text.specs.FirstStates.{first_state}
+use Rattle.lola_save_text.specs.JournalStates.{IsJournalOf, state_of}
+use Rattle.lola_save_text.specs.Restored.{IsRestoredFrom, StandsForJournals}
 use Rattle.lola_save.specs.Loaded.{AreStreamsLoaded, GoesOn}
 use Rattle.lola_save.specs.Opening.{IsGoingOn, IsStoreOf, times_in}
 use Rattle.lola_save.proofs.StoreMade.{made-on, made-restored}

@@ -25,9 +25,9 @@ use Rattle.lola_save_text.specs.declared.forms.WindowForm.{WindowForm}
 use Rattle.lola_save_text.specs.declared.state.SavedInstance.{SavedInstance}
 use Rattle.lola_save_text.specs.declared.state.SavedPanes.{SavedPanes}
 use Rattle.lola_save_text.specs.declared.state.Times.{Times}
-use Rattle.lola_save_law.specs.Offsets.{PanesAreRestored, by_offset}
-use Rattle.lola_save_law.specs.PaneFolds.{newest_time, panes_by, panes_of}
-use Rattle.lola_save_law.specs.Restored.{AreOfLife, IsSavedOf}
+use Rattle.lola_save_text.specs.Offsets.{PanesAreRestored, by_offset}
+use Rattle.lola_save_text.specs.PaneFolds.{newest_time, panes_by, panes_of}
+use Rattle.lola_save_text.specs.Restored.{AreOfLife, IsSavedOf}
 use Rattle.lola_save.specs.Fitting.{IsWholeStreamOf}
 use Rattle.lola_save.specs.Loaded.{ArePanesLoaded, AreValuesOf, IsBlank, IsLoaded, IsNewborn, IsSilentAt, StandAsSaved}
 use Rattle.lola_save.proofs.Lives.{last-kept}

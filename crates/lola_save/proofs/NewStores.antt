@@ -12,7 +12,7 @@ use Rattle.lola_model.specs.declared.spec.Stream.{Stream}
 use Rattle.lola_save_text.specs.Forms.{forms_of, form_with, stream_forms}
 use Rattle.lola_save_text.specs.declared.forms.StreamForm.{StreamForm}
 use Rattle.lola_save_text.specs.declared.state.SavedInstance.{SavedInstance}
-use Rattle.lola_save_law.specs.JournalStates.{saved_life, saved_streams}
+use Rattle.lola_save_text.specs.JournalStates.{saved_life, saved_streams}
 use Rattle.lola_save.specs.Taken.{AreStreamsTaken, AreTaken}
 
 module _ (plan : Plan) (remembers : Memories) (names : Naming) (fresh : (n i : ℕ) → i < length (instances_seen (new_seen (layout_of plan)) n) → remembers names n i []) where

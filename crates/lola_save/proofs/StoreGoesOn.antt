@@ -22,8 +22,8 @@ use Rattle.lola_save_text.specs.declared.forms.StreamForm.{StreamForm}
 use Rattle.lola_save_text.specs.declared.state.SavedInstance.{SavedInstance}
 use Rattle.lola_save_text.specs.declared.state.SavedState.{SavedState}
 use Rattle.lola_save_text.specs.declared.state.Times.{Times}
-use Rattle.lola_save_law.specs.JournalStates.{last_values}
-use Rattle.lola_save_law.specs.Restored.{IsSavedOf}
+use Rattle.lola_save_text.specs.JournalStates.{last_values}
+use Rattle.lola_save_text.specs.Restored.{IsSavedOf}
 use Rattle.lola_save.specs.Fitting.{IsFormOf}
 use Rattle.lola_save.specs.Loaded.{AreStreamsLoaded, CanLoad, IsOpen, IsPlain, IsStreamLoaded, times_seen}
 use Rattle.lola_save.specs.Opening.{IsGoingOn}

@@ -27,7 +27,7 @@ use Rattle.lola_save_text.specs.declared.forms.StreamForm.{StreamForm}
 use Rattle.lola_save_text.specs.declared.state.SavedInstance.{SavedInstance}
 use Rattle.lola_save_text.specs.declared.state.SavedState.{SavedState}
 use Rattle.lola_save_text.specs.declared.state.Times.{Times}
-use Rattle.lola_save_law.specs.Restored.{AreRestored, IsRestored, IsRestoredFrom, StreamsAreRestored}
+use Rattle.lola_save_text.specs.Restored.{AreRestored, IsRestored, IsRestoredFrom, StreamsAreRestored}
 use Rattle.lola_save.specs.Loaded.{AreStreamsLoaded, IsStreamLoaded}
 use Rattle.lola_save.specs.Opening.{times_in}
 use Rattle.lola_save.proofs.AllBirths.{count-long, streams-at}

@@ -18,7 +18,7 @@ use Rattle.lola_engine.specs.declared.times.RunTimes.{RunTimes}
 use Rattle.lola_save_text.specs.Forms.{forms_of}
 use Rattle.lola_save_text.specs.declared.state.SavedInstance.{SavedInstance}
 use Rattle.lola_save_text.specs.declared.state.SavedState.{SavedState}
-use Rattle.lola_save_law.specs.JournalStates.{saved_streams, state_of}
+use Rattle.lola_save_text.specs.JournalStates.{saved_streams, state_of}
 use Rattle.lola_save.specs.Fitting.{AreStreamsOf}
 use Rattle.lola_save.specs.Taken.{AreStreamsTaken}
 use Rattle.lola_save.proofs.Lives.{streams-taken}

@@ -8,8 +8,8 @@ use Rattle.lola_panes.specs.Standing.{Partials, StandFor, newest_of}
 use Rattle.lola_panes.specs.Weights.{number_at}
 use Rattle.lola_instances_one.specs.Saved.{HasPane, IsNewestPane, IsPartial}
 use Rattle.lola_save_text.specs.declared.forms.WindowForm.{WindowForm}
-use Rattle.lola_save_law.specs.PaneFolds.{newest_time, pane_number, panes_by, panes_of, panes_to}
-use Rattle.lola_save_law.specs.Offsets.{by_offset, panes_up_to, KeptPartialsAreSame, NewestPanesAreSame}
+use Rattle.lola_save_text.specs.PaneFolds.{newest_time, pane_number, panes_by, panes_of, panes_to}
+use Rattle.lola_save_text.specs.Offsets.{by_offset, panes_up_to, KeptPartialsAreSame, NewestPanesAreSame}
 use Rattle.lola_save.specs.Taken.{ArePartsOf, HavePanes}
 
 -- two facts of what may be there

@@ -24,7 +24,7 @@ use Rattle.lola_save_text.specs.declared.forms.WindowForm.{WindowForm}
 use Rattle.lola_save_text.specs.declared.state.SavedInstance.{SavedInstance}
 use Rattle.lola_save_text.specs.declared.state.SavedPanes.{SavedPanes}
 use Rattle.lola_save_text.specs.declared.state.Times.{Times}
-use Rattle.lola_save_law.specs.Restored.{IsRestored}
+use Rattle.lola_save_text.specs.Restored.{IsRestored}
 
 -- texts
 

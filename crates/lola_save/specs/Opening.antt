@@ -20,8 +20,8 @@ use Rattle.lola_save_text.specs.Forms.{forms_of}
 use Rattle.lola_save_text.specs.Lines.{state_text}
 use Rattle.lola_save_text.specs.Validity.{IsSaved}
 use Rattle.lola_save_text.specs.declared.state.SavedState.{SavedState}
-use Rattle.lola_save_law.specs.JournalStates.{IsJournalOf, state_of}
-use Rattle.lola_save_law.specs.Restored.{IsRestoredFrom}
+use Rattle.lola_save_text.specs.JournalStates.{IsJournalOf, state_of}
+use Rattle.lola_save_text.specs.Restored.{IsRestoredFrom}
 
 -- how far a run of a state had come
 abbrev pub times_in : SavedState → RunTimes

@@ -13,8 +13,8 @@ use Rattle.lola_panes.specs.Standing.{Partials, StandFor}
 use Rattle.lola_panes.specs.Weights.{number_at}
 use Rattle.lola_save_text.specs.declared.forms.StreamForm.{StreamForm}
 use Rattle.lola_save_text.specs.declared.state.SavedInstance.{SavedInstance}
-use Rattle.lola_save_law.specs.JournalStates.{saved_life}
-use Rattle.lola_save_law.specs.Offsets.{panes_up_to}
+use Rattle.lola_save_text.specs.JournalStates.{saved_life}
+use Rattle.lola_save_text.specs.Offsets.{panes_up_to}
 
 -- a value, if there is one
 abbrev pub value_in : Option Value → List Value

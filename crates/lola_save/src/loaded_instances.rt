@@ -21,9 +21,9 @@ use lola_instances::law::{
 };
 use lola_instances::store::BoundedStore;
 use lola_model::store::StreamStore;
-use lola_save_law::panes::panes_are_restored;
-use lola_save_law::restored::values_are_within;
 use lola_save_text::forms::StreamForm;
+use lola_save_text::panes::panes_are_restored;
+use lola_save_text::restored::values_are_within;
 use lola_save_text::state::{SavedInstance, SavedInstances};
 use lola_text::TextTable;
 use lola_value::text::Memory;

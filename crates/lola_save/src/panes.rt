@@ -7,14 +7,14 @@ ghost use Rattle.lola_value.specs.Naming.{Naming};
 ghost use Rattle.lola_model.specs.Store.{instances_seen, start_seen, target_of};
 ghost use Rattle.lola_instances.specs.Saved.{panes_at, values_by_now};
 ghost use Rattle.lola_instances.specs.Stores.{bounded_remembers, bounded_seen};
-ghost use Rattle.lola_save_law.specs.PaneFolds.{panes_of};
+ghost use Rattle.lola_save_text.specs.PaneFolds.{panes_of};
 ghost use Rattle.lola_save.specs.Fitting.{IsWindowOnto};
 ghost use Rattle.lola_save.specs.Taken.{ArePartsOf, HavePanes};
 
 use lola_instances::law::panes_stand_for_values;
 use lola_instances::store::BoundedStore;
-use lola_save_law::panes::{kept_partials_are_same, newest_panes_are_same};
 use lola_save_text::forms::WindowForm;
+use lola_save_text::panes::{kept_partials_are_same, newest_panes_are_same};
 use lola_save_text::state::{InstancePanes, Partials, SavedPanes};
 use lola_value::text::Memory;
 use std::alloc::Global;

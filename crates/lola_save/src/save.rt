@@ -8,7 +8,7 @@ ghost use Rattle.lola_engine.specs.Engines.{IsEngine};
 ghost use Rattle.lola_instances.specs.Stores.{bounded_remembers, bounded_seen};
 ghost use Rattle.lola_save_text.specs.Forms.{forms_of};
 ghost use Rattle.lola_save_text.specs.Lines.{state_text};
-ghost use Rattle.lola_save_law.specs.JournalStates.{state_of};
+ghost use Rattle.lola_save_text.specs.JournalStates.{state_of};
 
 use crate::instances::streams_of;
 use crate::write::write_state;

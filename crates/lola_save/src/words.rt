@@ -4,7 +4,7 @@ ghost use Rattle.std.specs.Prelude.{◌≡◌, ◌∷◌, ◌++◌, OnOk, OnErr,
 ghost use Rattle.lola_value.specs.Appending.{AppendsPart};
 ghost use Rattle.lola_value.specs.Numbers.{integer_text};
 ghost use Rattle.lola_model.specs.Texts.{value_text};
-ghost use Rattle.lola_report_lines.specs.Pieces.{bool_name};
+ghost use Rattle.lola_report.specs.Pieces.{bool_name};
 ghost use Rattle.lola_save_text.specs.Lines.{panes_text, partial_text, partials_text, time_or_dash, values_text};
 
 use crate::spelling::quote;

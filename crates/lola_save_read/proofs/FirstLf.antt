@@ -5,7 +5,7 @@ use Rattle.std.proofs.lemmas.Bool.{and_from, and_parts, leb-true, ne_eqb}
 use Rattle.std.proofs.lemmas.List.{append_cancel_left, take_all, take_more}
 use Rattle.std.proofs.lemmas.List.Folds.{list_all-append}
 use Rattle.lola_value.specs.Times.{is_digit}
-use Rattle.lola_report_lines.specs.Lines.{has_no_lf, is_not_lf}
+use Rattle.lola_report.specs.Lines.{has_no_lf, is_not_lf}
 use Rattle.lola_save_text.specs.Damage.{is_number}
 use Rattle.lola_save_read.specs.Heads.{IsCutAtLf, IsLineBehind, IsSecondLine}
 use Rattle.lola_save_text.proofs.SameCuts.{cut-same}

@@ -8,8 +8,8 @@ use Rattle.std.proofs.lemmas.List.{append_cancel_left}
 use Rattle.lola_value.specs.Times.{is_digit}
 use Rattle.lola_model.specs.Texts.{text_of}
 use Rattle.lola_model.specs.declared.plan.Plan.{Plan}
-use Rattle.lola_report_lines.specs.Lines.{IsLine}
-use Rattle.lola_report_lines.proofs.Plain.{both, decimal_plain, ended}
+use Rattle.lola_report.specs.Lines.{IsLine}
+use Rattle.lola_report.proofs.Plain.{both, decimal_plain, ended}
 use Rattle.lola_save_text.specs.Damage.{GoesOn, IsStateText, is_number}
 use Rattle.lola_save_text.specs.Forms.{AreStorable, forms_of}
 use Rattle.lola_save_read.specs.Heads.{IsBehindHead, IsHeadEnd, IsSecondLine, HasSpec}

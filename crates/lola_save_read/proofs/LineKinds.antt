@@ -3,7 +3,7 @@ use Rattle.std.proofs.Common.{◌≡◌, ◌≢◌, ◌∷◌, ℕ, ◌++◌, Li
 use Rattle.std.specs.Prelude.{MatchOption}
 use Rattle.std.proofs.lemmas.Bool.{and_parts, eqb-true}
 use Rattle.lola_value.specs.declared.text.Field.{Field}
-use Rattle.lola_report_lines.specs.Lines.{has_no_lf}
+use Rattle.lola_report.specs.Lines.{has_no_lf}
 use Rattle.lola_save_text.specs.Fitting.{are_panes}
 use Rattle.lola_save_text.specs.Lines.{StateLine, InstLine, PanesLine, RingLine, StreamLine, line_body, line_text}
 use Rattle.lola_save_text.specs.Places.{Place, AtInst, AtPanes, AtRing, AtStream, Done, are_params, as_inst, as_panes, as_ring, as_stream, behind_instance, behind_panes, is_birth, is_count, is_end, is_ring, next, one_less, opened, where_so}

@@ -8,8 +8,8 @@ use Rattle.lola_value.specs.Numbers.{integer_text}
 use Rattle.lola_value.specs.Times.{is_digit}
 use Rattle.lola_model.specs.declared.spec.Agg.{Agg}
 use Rattle.lola_model.specs.declared.spec.Agg.TheVariants as agg
-use Rattle.lola_report_lines.specs.Pieces.{bool_name}
-use Rattle.lola_report_lines.proofs.Mild.{bool_mild, integer_mild}
+use Rattle.lola_report.specs.Pieces.{bool_name}
+use Rattle.lola_report.proofs.Mild.{bool_mild, integer_mild}
 use Rattle.lola_panes.specs.declared.partial.Partial.{Partial}
 use Rattle.lola_panes.specs.declared.partial.Partial.TheVariants.{Number, Extreme, Mean, Truth}
 use Rattle.lola_save_text.specs.Fitting.{counted, is_partial, total_size}

@@ -3,8 +3,8 @@ use Rattle.std.proofs.Common.{◌≡◌, ◌≢◌, ℕ, ◌+◌, ◌≤◌, ◌
 use Rattle.std.proofs.lemmas.Bool.{and_parts, le-leb, leb-true}
 use Rattle.std.proofs.lemmas.List.{append_cancel_left}
 use Rattle.lola_value.specs.Times.{latest}
-use Rattle.lola_report_lines.specs.Lines.{has_no_lf, is_not_lf}
-use Rattle.lola_report_lines.proofs.Plain.{decimal_plain}
+use Rattle.lola_report.specs.Lines.{has_no_lf, is_not_lf}
+use Rattle.lola_report.proofs.Plain.{decimal_plain}
 use Rattle.lola_save_text.specs.Fitting.{is_last, is_start, most_steps}
 use Rattle.lola_save_text.specs.Forms.{forms_of}
 use Rattle.lola_save_text.specs.declared.forms.StreamForm.{StreamForm}

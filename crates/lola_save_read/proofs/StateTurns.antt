@@ -6,7 +6,7 @@ use Rattle.std.proofs.lemmas.List.{length-append}
 use Rattle.std.proofs.lemmas.List.Elements.{filter-append}
 use Rattle.lola_model.specs.declared.plan.Plan.{Plan}
 use Rattle.lola_model.specs.Acceptance.{IsAccepted}
-use Rattle.lola_report_lines.specs.Lines.{has_no_lf, is_not_lf}
+use Rattle.lola_report.specs.Lines.{has_no_lf, is_not_lf}
 use Rattle.lola_save_text.specs.Damage.{IsDamagedAt, IsOtherSpec, IsStateText}
 use Rattle.lola_save_text.specs.Forms.{AreStorable, HaveLength, forms_of}
 use Rattle.lola_save_text.specs.Lines.{EndLine, LastLine, StartLine, StateLine, StepsLine, head_text, heading, line_body, line_text, lines_text, state_lines, streams_lines}

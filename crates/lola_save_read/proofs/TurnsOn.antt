@@ -1,7 +1,7 @@
 -- What is read from place to place, one line after another.
 use Rattle.std.proofs.Common.{◌≡◌, ◌∷◌, ℕ, ◌++◌, List, [], true, Option, Some, None, refl, sym, ap, ◌∙◌, append_assoc, append-nil, length}
 use Rattle.std.proofs.lemmas.Bool.{and_parts}
-use Rattle.lola_report_lines.specs.Lines.{has_no_lf, is_not_lf}
+use Rattle.lola_report.specs.Lines.{has_no_lf, is_not_lf}
 use Rattle.lola_save_text.specs.Lines.{StateLine, line_body, line_text, lines_text}
 use Rattle.lola_save_text.specs.Places.{Place, Done, chosen, next}
 use Rattle.lola_save_text.specs.Runs.{run}

@@ -15,8 +15,8 @@ use Rattle.lola_value.specs.Kinds.{is_bool, is_integer, is_text}
 use Rattle.lola_value.specs.Numbers.{integer_text}
 use Rattle.lola_value.proofs.Ranges.{small}
 use Rattle.lola_model.specs.Texts.{quoted, value_text}
-use Rattle.lola_report_lines.specs.Pieces.{bool_name}
-use Rattle.lola_report_lines.proofs.Mild.{bool_mild, integer_mild}
+use Rattle.lola_report.specs.Pieces.{bool_name}
+use Rattle.lola_report.proofs.Mild.{bool_mild, integer_mild}
 use Rattle.lola_save_text.specs.Fitting.{is_value}
 use Rattle.lola_save_text.proofs.Numbers.{integer-same}
 use Rattle.lola_save_text.proofs.Quotes.{quoted-same}

@@ -4,7 +4,7 @@ use Rattle.std.specs.Prelude.{nat_eq, nat_lt, IsTrue, ◌↔◌}
 use Rattle.std.specs.List.{list_all}
 use Rattle.std.proofs.lemmas.Bool.{and_from, and_parts, eqb-true, ltb-true, ne_eqb}
 use Rattle.lola_value.specs.declared.text.Field.{Field}
-use Rattle.lola_report_lines.proofs.Mild.{decimal_mild, is_mild}
+use Rattle.lola_report.proofs.Mild.{decimal_mild, is_mild}
 use Rattle.lola_panes.specs.declared.partial.Partial.{Partial}
 use Rattle.lola_save_text.specs.Lines.{partials_text, time_or_dash, values_text, word}
 use Rattle.lola_save_text.proofs.SameCuts.{Stops, cut-same}

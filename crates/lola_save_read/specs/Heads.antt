@@ -2,7 +2,7 @@
 use Rattle.std.specs.Prelude.{ℕ, ◌≡◌, List, ◌∷◌, ◌++◌, true, codes, decimal, length}
 use Rattle.lola_model.specs.declared.plan.Plan.{Plan}
 use Rattle.lola_model.specs.Acceptance.{IsAccepted}
-use Rattle.lola_report_lines.specs.Lines.{has_no_lf}
+use Rattle.lola_report.specs.Lines.{has_no_lf}
 use Rattle.lola_save_text.specs.Damage.{IsDamagedAt, IsOtherSpec, is_number}
 use Rattle.lola_save_text.specs.Lines.{head_text}
 use Rattle.lola_save_read.specs.declared.head.HeadEnd.{HeadEnd}

@@ -2,7 +2,7 @@
 
 ghost use Rattle.std.specs.Prelude.{◌≡◌, ◌≢◌, ◌↔◌, ◌∷◌, ◌++◌, [], ℕ, List, true, IsTrue, MatchOption};
 ghost use Rattle.std.specs.List.{list_all};
-ghost use Rattle.lola_report_lines.specs.Lines.{has_no_lf};
+ghost use Rattle.lola_report.specs.Lines.{has_no_lf};
 ghost use Rattle.lola_save_read.specs.Heads.{IsCutAtLf, IsLineBehind};
 ghost use Rattle.lola_save_read.specs.Words.{IsCutAtSlash, IsNextWord, IsWordCut, IsWordEnd, is_no_slash};
 

@@ -8,7 +8,7 @@ ghost use Rattle.lola_value.specs.Numbers.{integer_text};
 ghost use Rattle.lola_value.specs.declared.text.Field.{Field};
 ghost use Rattle.lola_value.specs.declared.value.Kind.TheVariants as kind;
 ghost use Rattle.lola_model.specs.Texts.{value_text};
-ghost use Rattle.lola_report_lines.specs.Pieces.{bool_name};
+ghost use Rattle.lola_report.specs.Pieces.{bool_name};
 ghost use Rattle.lola_save_text.specs.Fitting.{is_value};
 ghost use Rattle.lola_save_read.specs.Words.{IsNextValue, IsValueRead, IsWordEnd};
 

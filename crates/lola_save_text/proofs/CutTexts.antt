@@ -5,7 +5,7 @@ use Rattle.std.proofs.lemmas.List.{append_cancel_left, length-append}
 use Rattle.std.proofs.lemmas.List.Folds.{list_all-append}
 use Rattle.lola_model.specs.Texts.{text_of}
 use Rattle.lola_model.specs.declared.plan.Plan.{Plan}
-use Rattle.lola_report_lines.specs.Lines.{IsLine, has_no_lf, is_not_lf}
+use Rattle.lola_report.specs.Lines.{IsLine, has_no_lf, is_not_lf}
 use Rattle.lola_save_text.specs.Damage.{GoesOn, IsDamagedAt, IsStateText}
 use Rattle.lola_save_text.specs.Forms.{AreStorable, forms_of}
 use Rattle.lola_save_text.specs.Lines.{StateLine, head_text, lines_text, state_lines}

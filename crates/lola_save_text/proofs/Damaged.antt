@@ -5,7 +5,7 @@ use Rattle.std.proofs.lemmas.Bool.{leb-true, leb-false}
 use Rattle.std.proofs.lemmas.List.{append_cancel_left, length-append}
 use Rattle.lola_model.specs.Texts.{text_of}
 use Rattle.lola_model.specs.declared.plan.Plan.{Plan}
-use Rattle.lola_report_lines.specs.Lines.{IsLine}
+use Rattle.lola_report.specs.Lines.{IsLine}
 use Rattle.lola_save_text.specs.Damage.{GoesOn, IsDamagedAt, IsStateText}
 use Rattle.lola_save_text.specs.Forms.{AreStorable, StreamForm, forms_of}
 use Rattle.lola_save_text.specs.Lines.{StateLine, head_text, heading, line_text, lines_text, state_lines, state_text}

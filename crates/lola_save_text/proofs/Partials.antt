@@ -9,7 +9,7 @@ use Rattle.lola_value.specs.Numbers.{integer_text}
 use Rattle.lola_value.specs.Times.{is_digit, latest}
 use Rattle.lola_model.specs.declared.spec.Agg.{Agg}
 use Rattle.lola_model.specs.declared.spec.Agg.TheVariants as agg
-use Rattle.lola_report_lines.proofs.Mild.{Mild, is_mild, decimal_mild, integer_mild, mild_both, mild_and}
+use Rattle.lola_report.proofs.Mild.{Mild, is_mild, decimal_mild, integer_mild, mild_both, mild_and}
 use Rattle.lola_save_text.specs.Fitting.{Times, are_panes, counted, is_last, is_partial, most_steps, time_or, total_size}
 use Rattle.lola_save_text.specs.Forms.{WindowForm}
 use Rattle.std.proofs.Math.Nat.{mul-le-mul_left}

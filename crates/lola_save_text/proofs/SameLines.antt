@@ -6,7 +6,7 @@ use Rattle.std.proofs.lemmas.List.{append_cancel_left, append_cancel_right}
 use Rattle.lola_value.specs.declared.text.Field.{Field}
 use Rattle.lola_value.specs.declared.value.Kind.{Kind}
 use Rattle.lola_value.specs.Times.{is_digit, latest, nine_digits, time_text}
-use Rattle.lola_report_lines.proofs.Mild.{Mild, is_mild, time_mild}
+use Rattle.lola_report.proofs.Mild.{Mild, is_mild, time_mild}
 use Rattle.lola_save_text.specs.Fitting.{are_panes, are_values, is_among, is_last, is_start, is_value, most_steps}
 use Rattle.lola_save_text.specs.Forms.{StreamForm}
 use Rattle.lola_save_text.specs.Lines.{StateLine, StartLine, LastLine, StepsLine, StreamLine, InstLine, RingLine, PanesLine, line_body, line_text, panes_text, time_or_dash, values_text}

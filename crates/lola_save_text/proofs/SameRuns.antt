@@ -4,10 +4,10 @@ use Rattle.std.proofs.lemmas.Bool.{leb-true, leb-false}
 use Rattle.lola_value.specs.declared.text.Field.{Field}
 use Rattle.lola_value.specs.Numbers.{integer_text}
 use Rattle.lola_model.specs.Texts.{value_text}
-use Rattle.lola_report_lines.specs.Lines.{IsLine}
-use Rattle.lola_report_lines.specs.Pieces.{bool_name}
-use Rattle.lola_report_lines.proofs.Mild.{bool_mild, mild_plain}
-use Rattle.lola_report_lines.proofs.Plain.{Plain, both, byte_and, decimal_plain, ended, integer_plain, time_plain, value_plain}
+use Rattle.lola_report.specs.Lines.{IsLine}
+use Rattle.lola_report.specs.Pieces.{bool_name}
+use Rattle.lola_report.proofs.Mild.{bool_mild, mild_plain}
+use Rattle.lola_report.proofs.Plain.{Plain, both, byte_and, decimal_plain, ended, integer_plain, time_plain, value_plain}
 use Rattle.lola_save_text.specs.Forms.{AreStorable, StreamForm, forms_of}
 use Rattle.lola_save_text.specs.Lines.{StateLine, StartLine, LastLine, StepsLine, StreamLine, InstLine, RingLine, PanesLine, EndLine, head_text, line_body, line_text, lines_text, panes_text, partial_text, partials_text, state_lines, state_text, time_or_dash, values_text}
 use Rattle.lola_save_text.specs.Places.{Place, AtStart, Done, next}

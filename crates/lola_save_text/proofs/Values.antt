@@ -14,8 +14,8 @@ use Rattle.lola_value.specs.Kinds.{is_bool, is_integer, is_text}
 use Rattle.lola_value.specs.Numbers.{integer_text}
 use Rattle.lola_value.proofs.Ranges.{small}
 use Rattle.lola_model.specs.Texts.{value_text}
-use Rattle.lola_report_lines.specs.Pieces.{bool_name}
-use Rattle.lola_report_lines.proofs.Mild.{is_mild, bool_mild, integer_mild}
+use Rattle.lola_report.specs.Pieces.{bool_name}
+use Rattle.lola_report.proofs.Mild.{is_mild, bool_mild, integer_mild}
 use Rattle.lola_save_text.specs.Fitting.{are_values, is_value}
 use Rattle.lola_save_text.specs.Lines.{values_text}
 use Rattle.lola_save_text.proofs.SameCuts.{Stops, cut-same}

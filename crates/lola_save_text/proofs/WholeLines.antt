@@ -3,8 +3,8 @@ use Rattle.std.proofs.Common.{◌≡◌, ℕ, zero, suc, ◌+◌, ◌≤◌, Lis
 use Rattle.std.specs.List.{AllByRecursion}
 use Rattle.std.proofs.lemmas.Bool.{eqb-true}
 use Rattle.lola_model.specs.Texts.{text_of}
-use Rattle.lola_report_lines.specs.Lines.{IsLine, is_not_lf}
-use Rattle.lola_report_lines.proofs.Plain.{byte_before, ended}
+use Rattle.lola_report.specs.Lines.{IsLine, is_not_lf}
+use Rattle.lola_report.proofs.Plain.{byte_before, ended}
 use Rattle.lola_save_text.specs.Runs.{count_lines}
 use Rattle.lola_save_text.proofs.SameCuts.{cut-same}
 

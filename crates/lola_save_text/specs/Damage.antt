@@ -4,7 +4,7 @@ use Rattle.std.specs.List.{AllByRecursion, list_all}
 use Rattle.lola_value.specs.Times.{is_digit}
 use Rattle.lola_model.specs.Texts.{text_of}
 use Rattle.lola_model.specs.declared.plan.Plan.{Plan}
-use Rattle.lola_report_lines.specs.Lines.{IsLine}
+use Rattle.lola_report.specs.Lines.{IsLine}
 use Rattle.lola_save_text.specs.Forms.{forms_of}
 use Rattle.lola_save_text.specs.Lines.{heading, state_text}
 use Rattle.lola_save_text.specs.States.{SavedState}

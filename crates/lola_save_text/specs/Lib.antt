@@ -7,3 +7,9 @@ pub mod Damage
 pub mod Places
 pub mod Runs
 pub mod Shapes
+pub mod PaneFolds
+pub mod JournalStates
+pub mod Resuming
+pub mod Offsets
+pub mod Restored
+pub mod FirstStates

@@ -5,7 +5,7 @@ use Rattle.lola_value.specs.Numbers.{integer_text}
 use Rattle.lola_value.specs.Times.{time_text}
 use Rattle.lola_model.specs.Texts.{value_text}
 use Rattle.lola_model.specs.declared.plan.Plan.{Plan}
-use Rattle.lola_report_lines.specs.Pieces.{bool_name}
+use Rattle.lola_report.specs.Pieces.{bool_name}
 use Rattle.lola_save_text.specs.Forms.{StreamForm, WindowForm, forms_of}
 use Rattle.lola_save_text.specs.States.{Partial, Number, Extreme, Mean, Truth, SavedPanes, SavedInstance, SavedState}
 

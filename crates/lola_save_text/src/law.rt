@@ -5,7 +5,7 @@ ghost use Rattle.std.specs.Prelude.{◌≡◌, ◌≤◌, ◌+◌, ◌++◌, ℕ
 ghost use Rattle.std.specs.List.{AllByRecursion};
 ghost use Rattle.lola_model.specs.Acceptance.{IsAccepted};
 ghost use Rattle.lola_model.specs.Texts.{text_of};
-ghost use Rattle.lola_report_lines.specs.Lines.{IsLine, has_no_lf};
+ghost use Rattle.lola_report.specs.Lines.{IsLine, has_no_lf};
 ghost use Rattle.lola_save_text.specs.Damage.{GoesOn, IsDamagedAt, IsStateText};
 ghost use Rattle.lola_save_text.specs.Forms.{forms_of};
 ghost use Rattle.lola_save_text.specs.Lines.{StateLine, state_lines, state_text};
@@ -33,14 +33,14 @@ pub fn whole_is_saved(_plan: &Plan)
 
 /// Lines are accepted one by one exactly where the lines of a state that the plan can have begin with them: each beginning that
 /// is accepted has a way to the end.
-pub fn accepted_begins(_plan: &Plan)
+pub fn fitting_begins(_plan: &Plan)
     requires { IsAccepted _plan.now }
     ensures sound { (ls : List StateLine) → IsSome (run (forms_of _plan.now) AtStart ls) → BeginSaved (forms_of _plan.now) ls }
     ensures complete { (ls : List StateLine) → BeginSaved (forms_of _plan.now) ls → IsSome (run (forms_of _plan.now) AtStart ls) }
 {}
 
 /// The first line that is refused is the line at which the bytes are damaged, counted over all of them.
-pub fn first_refused_is_damaged(_plan: &Plan)
+pub fn first_unfitting_is_damaged(_plan: &Plan)
     requires { IsAccepted _plan.now }
     ensures { (spec bytes : List ℕ) (n : ℕ) → IsFirstRefused spec _plan.now bytes n → IsDamagedAt spec _plan.now bytes n }
 {}

@@ -32,7 +32,7 @@ use Rattle.lola_step.specs.Steps.{AreInputs, AreOfInputs, BeginsWith, ReadFields
 use Rattle.lola_step.specs.declared.end.StepEnd.{StepEnd}
 use Rattle.lola_step.specs.declared.moment.Moment.{Moment}
 use Rattle.lola_step.specs.declared.scratch.Scratch.{Scratch}
-use Rattle.lola_step.specs.declared.verdict.Verdict.{Verdict}
+use Rattle.lola_step.specs.declared.step_value.StepValue.{StepValue}
 
 -- the inputs
 
@@ -179,17 +179,17 @@ module _ (plan : Plan) (show : Show) (start time : ℕ) (is_row : Bool) (inputs 
   starts = ap (λ (k : Moment). k.start) same
 
   pub whole_step : (r0 : Memories) (s0 : Seen) (r1 : Memories) (s1 : Seen) (r2 : Memories) (s2 : Seen) (r3 : Memories) (s3 : Seen) (r4 : Memories) (s4 : Seen) (r5 : Memories) (s5 : Seen)
-      (n : Scratch) (end : StepEnd) (verdicts : List Verdict)
+      (n : Scratch) (end : StepEnd) (step_values : List StepValue)
       → ((names : Naming) (c : Content) → Stands names r0 s0 c → Stands names r1 s1 c)
       → ((names : Naming) (c : Content) → Stands names r1 s1 c → Stands names r2 s2 (begun c time))
       → start_seen s2 ≡ start → s2.layout ≡ layout_of plan
       → TakesInputs plan is_row inputs r2 s2 r3 s3
       → EvaluatesAll plan m r3 s3 r4 s4 n
-      → Concludes plan show m n.spawn_results.items n.spans.items n.tasks.items n.results.items r4 s4 end r5 s5 verdicts
+      → Concludes plan show m n.spawn_results.items n.spans.items n.tasks.items n.results.items r4 s4 end r5 s5 step_values
       → (names : Naming) (rows : List TableRow) (step : Step) → IsRun plan names rows → step.time ≡ time → ReadFields names inputs is_row step.fields
       → StandsBetween names r0 s0 (content_after plan start rows)
-      → StepEnds end plan show start rows step names r5 s5 verdicts
-  whole_step r0 s0 r1 s1 r2 s2 r3 s3 r4 s4 r5 s5 n end verdicts prepares begins_so at_start layout takes evaluates concludes names rows step run e reads between =
+      → StepEnds end plan show start rows step names r5 s5 step_values
+  whole_step r0 s0 r1 s1 r2 s2 r3 s3 r4 s4 r5 s5 n end step_values prepares begins_so at_start layout takes evaluates concludes names rows step run e reads between =
       let whole : Content = between.0 in
       let begun_there : Stands names r2 s2 (begun whole step.time) =
       subst (λ t. Stands names r2 s2 (begun whole t)) (sym e) (begins_so names whole (prepares names whole between.1)) in
@@ -204,4 +204,4 @@ module _ (plan : Plan) (show : Show) (start time : ℕ) (is_row : Bool) (inputs 
         stands = subst (λ a. Stands names r3 s3 (content_so_far plan a rows step (layer_stage (length plan.spec.streams) 0))) (at_start ∙ sym starts) told;
       } in
       let done = evaluates names rows step there in
-      subst (λ a. StepEnds end plan show a rows step names r5 s5 verdicts) starts (concludes names rows step run moment done.0 done.1)
+      subst (λ a. StepEnds end plan show a rows step names r5 s5 step_values) starts (concludes names rows step run moment done.0 done.1)

@@ -16,9 +16,9 @@ use Rattle.lola_model.specs.declared.spec.Stream.{Stream}
 use Rattle.lola_model.specs.declared.store.Whereabouts.{Whereabouts}
 use Rattle.lola_model.specs.declared.journal.Show.{Show}
 use Rattle.lola_step.specs.Closings.{AreUpTo, all_places}
-use Rattle.lola_step.specs.Found.{all_verdicts, is_hidden, verdicts_among}
+use Rattle.lola_step.specs.Found.{all_step_values, is_hidden, step_values_among}
 use Rattle.lola_step.specs.Scratches.{no_span}
-use Rattle.lola_step.specs.declared.verdict.Verdict.{Verdict}
+use Rattle.lola_step.specs.declared.step_value.StepValue.{StepValue}
 use Rattle.lola_step.specs.Moments.{may_be_active_in}
 use Rattle.lola_step.specs.Notes.{asked_in, in_span, is_fine, layer_spans, layer_tasks, places_of, runs_in, sought_at, stream_tasks}
 use Rattle.lola_step.specs.Rooms.{rooms, total}
@@ -266,50 +266,50 @@ module _ (plan : Plan) (accepted : IsAccepted plan) (is_row : Bool) (inputs : Li
 
 module _ (plan : Plan) (show : Show) (s : Seen) (tasks : List Task) (results : List Outcome) (spans : List Span) where
   -- those of the streams below a number are collected, and there is room for the others
-  pub record AreCollected (verdicts : Vec Verdict) (n : ℕ) : Type 0 where
-    pub items : verdicts.items ++ all_verdicts show s tasks results n (drop n plan.spec.streams) (drop n spans) ≡ all_verdicts show s tasks results 0 plan.spec.streams spans
-    pub count : vec_len verdicts + total (drop n (rooms s)) ≤ total (rooms s)
+  pub record AreCollected (step_values : Vec StepValue) (n : ℕ) : Type 0 where
+    pub items : step_values.items ++ all_step_values show s tasks results n (drop n plan.spec.streams) (drop n spans) ≡ all_step_values show s tasks results 0 plan.spec.streams spans
+    pub count : vec_len step_values + total (drop n (rooms s)) ≤ total (rooms s)
 
   -- below the first there are none
-  pub collected_first : (verdicts : Vec Verdict) → verdicts.items ≡ [] → AreCollected verdicts 0
-  collected_first verdicts none = record {
-    items = ap (λ (vs : List Verdict). vs ++ all_verdicts show s tasks results 0 plan.spec.streams spans) none;
-    count = omega (arith, verdicts.ok.0, ap length none);
+  pub collected_first : (step_values : Vec StepValue) → step_values.items ≡ [] → AreCollected step_values 0
+  collected_first step_values none = record {
+    items = ap (λ (vs : List StepValue). vs ++ all_step_values show s tasks results 0 plan.spec.streams spans) none;
+    count = omega (arith, step_values.ok.0, ap length none);
   }
 
   module _ (long : length spans ≡ length plan.spec.streams) where
-    pub collected_past : (verdicts : Vec Verdict) (n : ℕ) (x : Stream) → slice_get plan.spec.streams n ≡ Some x → has_duty plan (duty.Shown show) n x ≡ false
-        → AreCollected verdicts n → AreCollected verdicts (n + 1)
-    collected_past verdicts n x at none h =
+    pub collected_past : (step_values : Vec StepValue) (n : ℕ) (x : Stream) → slice_get plan.spec.streams n ≡ Some x → has_duty plan (duty.Shown show) n x ≡ false
+        → AreCollected step_values n → AreCollected step_values (n + 1)
+    collected_past step_values n x at none h =
         let p : Span = get_or spans n no_span in
         let hidden : is_hidden show x ≡ true = not-false (is_hidden show x) none in
-        let vs : List Verdict = verdicts_among s n (asked_in tasks (Some p)) (in_span results (Some p)) in
+        let vs : List StepValue = step_values_among s n (asked_in tasks (Some p)) (in_span results (Some p)) in
         record {
-          items = streams_step show s tasks results plan.spec.streams spans n verdicts.items h.items x no_span _ _ verdicts.items at (omega (arith, long, slice_get_within plan.spec.streams n x at)) refl refl
-              (sym (append-nil verdicts.items) ∙ ap (λ b. verdicts.items ++ (if b then [] else vs)) (sym hidden));
+          items = streams_step show s tasks results plan.spec.streams spans n step_values.items h.items x no_span _ _ step_values.items at (omega (arith, long, slice_get_within plan.spec.streams n x at)) refl refl
+              (sym (append-nil step_values.items) ∙ ap (λ b. step_values.items ++ (if b then [] else vs)) (sym hidden));
           count = omega (arith, room_there s n, h.count);
         }
 
     -- the values of one more stream that may have some
-    pub collected_next : (verdicts verdicts' : Vec Verdict) (n : ℕ) (x : Stream) (p : Span) → slice_get plan.spec.streams n ≡ Some x → has_duty plan (duty.Shown show) n x ≡ true → p ≡ get_or spans n no_span
-        → verdicts'.items ≡ verdicts.items ++ verdicts_among s n (asked_in tasks (Some p)) (in_span results (Some p))
-        → vec_len verdicts' + total (drop (n + 1) (rooms s)) ≤ total (rooms s)
-        → AreCollected verdicts n → AreCollected verdicts' (n + 1)
-    collected_next verdicts verdicts' n x p at duties same e count h =
+    pub collected_next : (step_values step_values' : Vec StepValue) (n : ℕ) (x : Stream) (p : Span) → slice_get plan.spec.streams n ≡ Some x → has_duty plan (duty.Shown show) n x ≡ true → p ≡ get_or spans n no_span
+        → step_values'.items ≡ step_values.items ++ step_values_among s n (asked_in tasks (Some p)) (in_span results (Some p))
+        → vec_len step_values' + total (drop (n + 1) (rooms s)) ≤ total (rooms s)
+        → AreCollected step_values n → AreCollected step_values' (n + 1)
+    collected_next step_values step_values' n x p at duties same e count h =
         let shown : is_hidden show x ≡ false = not-true (is_hidden show x) duties in
-        let vs : List Verdict = verdicts_among s n (asked_in tasks (Some p)) (in_span results (Some p)) in
+        let vs : List StepValue = step_values_among s n (asked_in tasks (Some p)) (in_span results (Some p)) in
         record {
-          items = streams_step show s tasks results plan.spec.streams spans n verdicts.items h.items x no_span _ _ verdicts'.items at (omega (arith, long, slice_get_within plan.spec.streams n x at))
+          items = streams_step show s tasks results plan.spec.streams spans n step_values.items h.items x no_span _ _ step_values'.items at (omega (arith, long, slice_get_within plan.spec.streams n x at))
               (ap (λ q. asked_in tasks (Some q)) same) (ap (λ q. in_span results (Some q)) same)
-              (e ∙ ap (λ b. verdicts.items ++ (if b then [] else vs)) (sym shown));
+              (e ∙ ap (λ b. step_values.items ++ (if b then [] else vs)) (sym shown));
           count = count;
         }
 
-    module _ (verdicts : Vec Verdict) (duties : List ℕ) (k : ℕ) (walk : IsWalk (has_duty plan (duty.Shown show)) plan.spec.streams (AreCollected verdicts) (drop k duties)) where
+    module _ (step_values : Vec StepValue) (duties : List ℕ) (k : ℕ) (walk : IsWalk (has_duty plan (duty.Shown show)) plan.spec.streams (AreCollected step_values) (drop k duties)) where
       -- the next of them
-      pub collected_duty : k < length duties → IsDuty (has_duty plan (duty.Shown show)) plan.spec.streams (AreCollected verdicts) (get_or duties k 0) (drop (k + 1) duties)
-      collected_duty lt = walk_item (has_duty plan (duty.Shown show)) plan.spec.streams (AreCollected verdicts) (collected_past verdicts) duties k lt walk
+      pub collected_duty : k < length duties → IsDuty (has_duty plan (duty.Shown show)) plan.spec.streams (AreCollected step_values) (get_or duties k 0) (drop (k + 1) duties)
+      collected_duty lt = walk_item (has_duty plan (duty.Shown show)) plan.spec.streams (AreCollected step_values) (collected_past step_values) duties k lt walk
 
       -- all of them
-      pub collected_end : length duties ≤ k → AreCollected verdicts (length plan.spec.streams)
-      collected_end past = walk_done (has_duty plan (duty.Shown show)) plan.spec.streams (AreCollected verdicts) (collected_past verdicts) duties k past walk
+      pub collected_end : length duties ≤ k → AreCollected step_values (length plan.spec.streams)
+      collected_end past = walk_done (has_duty plan (duty.Shown show)) plan.spec.streams (AreCollected step_values) (collected_past step_values) duties k past walk

@@ -123,5 +123,5 @@ room_is_there plan s n of never made =
       tasks = omega (arith, few, made.room.tasks);
       results = omega (arith, few, made.room.results);
       closing = omega (arith, few, made.room.closing);
-      verdicts = omega (arith, few, made.room.verdicts);
+      step_values = omega (arith, few, made.room.step_values);
     }

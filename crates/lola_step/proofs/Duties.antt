@@ -5,7 +5,7 @@ use Rattle.std.proofs.lemmas.Option.{slice_get_within}
 use Rattle.lola_model.specs.declared.plan.Plan.{Plan}
 use Rattle.lola_model.specs.declared.spec.Stream.{Stream}
 use Rattle.lola_step.specs.Schedules.{IsLayerOf, numbers_of}
-use Rattle.lola_step.specs.declared.schedule.Layer.{Layer}
+use Rattle.lola_step.specs.declared.schedule.LayerDuties.{LayerDuties}
 use Rattle.lola_step.proofs.Elements.{AreFrom, drop_past, from_first, from_here, from_later}
 
 -- the numbers left of a list of duties are those of the streams from a place on, of those that pass, and so much holds of that place
@@ -99,8 +99,8 @@ last_or [] y (suc i) x e = absurd (cc)
 last_or (z ∷ xs) y zero x e = inl e
 last_or (z ∷ xs) y (suc i) x e = elim (last_or xs y i x e) [ inl h ↦ inl h | inr h ↦ inr (ap suc h.0, h.1) ]
 
-pub layers_more : (plan : Plan) (layers more : List Layer) (y : Layer) (k : ℕ) → more ≡ layers ++ y ∷ [] → length layers ≡ k → IsLayerOf plan k y
-    → ((i : ℕ) (x : Layer) → slice_get layers i ≡ Some x → IsLayerOf plan i x) → (i : ℕ) (x : Layer) → slice_get more i ≡ Some x → IsLayerOf plan i x
+pub layers_more : (plan : Plan) (layers more : List LayerDuties) (y : LayerDuties) (k : ℕ) → more ≡ layers ++ y ∷ [] → length layers ≡ k → IsLayerOf plan k y
+    → ((i : ℕ) (x : LayerDuties) → slice_get layers i ≡ Some x → IsLayerOf plan i x) → (i : ℕ) (x : LayerDuties) → slice_get more i ≡ Some x → IsLayerOf plan i x
 layers_more plan layers more y k e count here each i x at = by (last_or layers y i x (ap (λ ls. slice_get ls i) (sym e) ∙ at))
   where
     by : (slice_get layers i ≡ Some x) ⊎ ((i ≡ length layers) × (y ≡ x)) → IsLayerOf plan i x

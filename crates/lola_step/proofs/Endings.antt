@@ -13,7 +13,7 @@ use Rattle.lola_model.specs.declared.plan.Plan.{Plan}
 use Rattle.lola_step_contents.specs.Ends.{IsFine, closed_each, closings, evaluation_fault, full_content, lines_of}
 use Rattle.lola_step_contents.specs.Stages.{full_row}
 use Rattle.lola_step_contents.proofs.Ending.{each_step_ends}
-use Rattle.lola_step.specs.Ends.{CollectsVerdicts, FindsClosings, FindsFault}
+use Rattle.lola_step.specs.Ends.{CollectsStepValues, FindsClosings, FindsFault}
 use Rattle.lola_step.specs.Moments.{IsMoment}
 use Rattle.lola_step.specs.Notes.{AreNoted, AreSpans, AreWithin, places_of}
 use Rattle.lola_step.specs.Progress.{IsRun}
@@ -22,7 +22,7 @@ use Rattle.lola_step.specs.declared.spawn_result.SpawnResult.{SpawnResult}
 use Rattle.lola_step.specs.declared.moment.Moment.{Moment}
 use Rattle.lola_step.specs.declared.scratch.Span.{Span}
 use Rattle.lola_step.specs.declared.tasks.Task.{Task}
-use Rattle.lola_step.specs.declared.verdict.Verdict.{Verdict}
+use Rattle.lola_step.specs.declared.step_value.StepValue.{StepValue}
 use Rattle.lola_step.proofs.Silenced.{hidden_left_out}
 
 -- what was found of lists holds of equal ones
@@ -42,12 +42,12 @@ same_fault plan spawn_results spawn_results' spans spans' tasks results results'
     (subst (λ ps. FindsFault plan spawn_results' ps tasks results found) f
     (subst (λ os. FindsFault plan spawn_results' spans' tasks os found) g h))
 
-pub same_verdicts : (plan : Plan) (show : Show) (spans spans' : List Span) (tasks tasks' : List Task) (results results' : List Outcome) (remembers : Memories) (s : Seen) (verdicts : List Verdict)
-    → spans' ≡ spans → tasks' ≡ tasks → results' ≡ results → CollectsVerdicts plan show spans' tasks' results' remembers s verdicts → CollectsVerdicts plan show spans tasks results remembers s verdicts
-same_verdicts plan show spans spans' tasks tasks' results results' remembers s verdicts e f g h =
-    subst (λ ps. CollectsVerdicts plan show ps tasks results remembers s verdicts) e
-    (subst (λ ts. CollectsVerdicts plan show spans' ts results remembers s verdicts) f
-    (subst (λ os. CollectsVerdicts plan show spans' tasks' os remembers s verdicts) g h))
+pub same_step_values : (plan : Plan) (show : Show) (spans spans' : List Span) (tasks tasks' : List Task) (results results' : List Outcome) (remembers : Memories) (s : Seen) (step_values : List StepValue)
+    → spans' ≡ spans → tasks' ≡ tasks → results' ≡ results → CollectsStepValues plan show spans' tasks' results' remembers s step_values → CollectsStepValues plan show spans tasks results remembers s step_values
+same_step_values plan show spans spans' tasks tasks' results results' remembers s step_values e f g h =
+    subst (λ ps. CollectsStepValues plan show ps tasks results remembers s step_values) e
+    (subst (λ ts. CollectsStepValues plan show spans' ts results remembers s step_values) f
+    (subst (λ os. CollectsStepValues plan show spans' tasks' os remembers s step_values) g h))
 
 module _ (plan : Plan) (m : Moment) (spawn_results : List SpawnResult) (spans : List Span) (tasks : List Task) (results : List Outcome) where
   -- by the fault of a spawn clause or of an instance
@@ -70,15 +70,15 @@ module _ (plan : Plan) (m : Moment) (spawn_results : List SpawnResult) (spans : 
         (sym (none names m.start rows step run noted)) (sym (finds names rows step run moment stands).0)
 
     -- or done: its lines are those of the values, and instances are closed
-    pub is_done : (show : Show) (remembers' : Memories) (s' : Seen) (closing closed : List Task) (verdicts : List Verdict)
+    pub is_done : (show : Show) (remembers' : Memories) (s' : Seen) (closing closed : List Task) (step_values : List StepValue)
         → FindsClosings plan m remembers s None closing → closed ≡ closing
-        → CollectsVerdicts plan show spans tasks results remembers s verdicts
+        → CollectsStepValues plan show spans tasks results remembers s step_values
         → ((names : Naming) (c : Content) → Stands names remembers s c → Stands names remembers' s' (closed_each c (reverse (places_of closed))))
         → (names : Naming) (rows : List TableRow) (step : Step) → IsRun plan names rows → IsMoment m.start step m
         → AreNoted plan (full_row plan m.start rows step).streams names spawn_results spans tasks results
         → Stands names remembers s (content m.start rows (full_row plan m.start rows step))
-        → IsDoneStep plan show m.start rows step names remembers' s' verdicts
-    is_done show remembers' s' closing closed verdicts finds same collects closes names rows step run moment noted stands =
+        → IsDoneStep plan show m.start rows step names remembers' s' step_values
+    is_done show remembers' s' closing closed step_values finds same collects closes names rows step run moment noted stands =
         let no_fault : evaluation_fault plan m.start rows step ≡ None = sym (none names m.start rows step run noted) in
         let found = finds names rows step run moment stands in
         let fine : IsFine plan m.start rows step = (each_step_ends plan m.start rows step).none no_fault (sym found.0) in

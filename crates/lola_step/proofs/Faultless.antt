@@ -95,7 +95,7 @@ fine_next spawn_results n m lt e h i k at = by (cases_eq i n)
 
 with_spawn_results : (m : SpawnResult) (os : List Outcome) → is_failed m ≡ false → fault_of m os ≡ least_among os
 with_spawn_results spawn_result.Fine os e = refl
-with_spawn_results (spawn_result.Failed k) os e = absurd (cc)
+with_spawn_results (spawn_result.Fault k) os e = absurd (cc)
 with_spawn_results spawn_result.Poisoned os e = refl
 
 -- all streams

@@ -32,8 +32,8 @@ use Rattle.lola_model.proofs.spec.WrittenRate.TheSendSync as rate_crosses
 use Rattle.lola_model.proofs.pacing.ClausePacings.TheSendSync as pacing_crosses
 use Rattle.lola_model.proofs.plan.PaneSize.TheSendSync as size_crosses
 use Rattle.lola_value.proofs.value.Value.TheSendSync as value_crosses
-use Rattle.lola_expr_code.specs.contracts.plan.PlanCode as plan_code
-use Rattle.lola_expr_code.proofs.plan.EvalCode.TheSendSync as code_crosses
+use Rattle.lola_expr.specs.contracts.plan.PlanCode as plan_code
+use Rattle.lola_expr.proofs.plan.EvalCode.TheSendSync as code_crosses
 use Rattle.lola_model.specs.declared.store.StreamStore.{Ghosts}
 use Rattle.lola_step.specs.contracts.moment.Moment as moment
 use Rattle.lola_step.specs.contracts.tasks.Task as task

@@ -18,7 +18,7 @@ use Rattle.lola_step.specs.declared.spawn_result.SpawnResult.{SpawnResult}
 use Rattle.lola_step.specs.declared.moment.Moment.{Moment}
 use Rattle.lola_step.specs.declared.scratch.Span.{Span}
 use Rattle.lola_step.specs.declared.tasks.Task.{Task}
-use Rattle.lola_step.specs.declared.verdict.Verdict.{Verdict}
+use Rattle.lola_step.specs.declared.step_value.StepValue.{StepValue}
 
 -- what the store shows once instances are closed
 pub record IsConcluded (plan : Plan) (old new : Seen) : Type 0 where
@@ -33,9 +33,9 @@ ShowsConcluded (end.Fault stream kind) plan old new = Unit {0}
 ShowsConcluded end.Memory plan old new = ⊥
 
 -- in each run of which all is noted so, and for whose row the store stood, the step ends so
-abbrev pub Concludes : Plan → Show → Moment → List SpawnResult → List Span → List Task → List Outcome → Memories → Seen → StepEnd → Memories → Seen → List Verdict → Type 0
-Concludes plan show m spawn_results spans tasks results remembers s e remembers' s' verdicts =
+abbrev pub Concludes : Plan → Show → Moment → List SpawnResult → List Span → List Task → List Outcome → Memories → Seen → StepEnd → Memories → Seen → List StepValue → Type 0
+Concludes plan show m spawn_results spans tasks results remembers s e remembers' s' step_values =
     (names : Naming) (rows : List TableRow) (step : Step) → IsRun plan names rows → IsMoment m.start step m
     → AreNoted plan (full_row plan m.start rows step).streams names spawn_results spans tasks results
     → Stands names remembers s (content m.start rows (full_row plan m.start rows step))
-    → StepEnds e plan show m.start rows step names remembers' s' verdicts
+    → StepEnds e plan show m.start rows step names remembers' s' step_values

@@ -13,13 +13,13 @@ use Rattle.lola_step_contents.specs.Ends.{RowValue, closing_fault, closings, eva
 use Rattle.lola_step_contents.specs.Stages.{full_row}
 use Rattle.lola_step.specs.Found.{is_hidden}
 use Rattle.lola_step.specs.Moments.{IsMoment}
-use Rattle.lola_step.specs.Notes.{AreNoted, AreVerdictsHeld, places_of, read_fault, read_verdict}
+use Rattle.lola_step.specs.Notes.{AreNoted, AreStepValuesHeld, places_of, read_fault, read_step_value}
 use Rattle.lola_step.specs.Progress.{IsRun}
 use Rattle.lola_step.specs.declared.spawn_result.SpawnResult.{SpawnResult}
 use Rattle.lola_step.specs.declared.moment.Moment.{Moment}
 use Rattle.lola_step.specs.declared.scratch.Span.{Span}
 use Rattle.lola_step.specs.declared.tasks.Task.{Task}
-use Rattle.lola_step.specs.declared.verdict.Verdict.{Verdict}
+use Rattle.lola_step.specs.declared.step_value.StepValue.{StepValue}
 
 -- in each run of which all is noted so, that is the fault of spawn clauses and instances
 abbrev pub FindsFault : Plan → List SpawnResult → List Span → List Task → List Outcome → Option (ℕ × FaultKind) → Type 0
@@ -34,12 +34,12 @@ shown_values show n (s ∷ ss) (y ∷ ys) = (if is_hidden show s then [] else va
 shown_values show n _ _ = []
 
 -- in each run of which all is noted so, and for whose row the store stands, these are its values that may have lines, and their texts are held
-abbrev pub CollectsVerdicts : Plan → Show → List Span → List Task → List Outcome → Memories → Seen → List Verdict → Type 0
-CollectsVerdicts plan show spans tasks results remembers s verdicts =
+abbrev pub CollectsStepValues : Plan → Show → List Span → List Task → List Outcome → Memories → Seen → List StepValue → Type 0
+CollectsStepValues plan show spans tasks results remembers s step_values =
     (names : Naming) (start : ℕ) (rows : List TableRow) (step : Step) (spawn_results : List SpawnResult) → IsRun plan names rows
     → AreNoted plan (full_row plan start rows step).streams names spawn_results spans tasks results
     → Stands names remembers s (content start rows (full_row plan start rows step))
-    → (map (read_verdict names) verdicts ≡ shown_values show 0 plan.spec.streams (full_row plan start rows step).streams) × AreVerdictsHeld names verdicts
+    → (map (read_step_value names) step_values ≡ shown_values show 0 plan.spec.streams (full_row plan start rows step).streams) × AreStepValuesHeld names step_values
 
 -- in each run for whose row the store stands, that is the fault of close clauses; and without one these instances are to be closed
 abbrev pub FindsClosings : Plan → Moment → Memories → Seen → Option (ℕ × FaultKind) → List Task → Type 0

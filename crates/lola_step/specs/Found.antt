@@ -18,7 +18,7 @@ use Rattle.lola_step.specs.declared.spawn_result.SpawnResult.{SpawnResult}
 use Rattle.lola_step.specs.declared.spawn_result.SpawnResult.TheVariants as spawn_result
 use Rattle.lola_step.specs.declared.scratch.Span.{Span}
 use Rattle.lola_step.specs.declared.tasks.Task.{Task}
-use Rattle.lola_step.specs.declared.verdict.Verdict.{Verdict}
+use Rattle.lola_step.specs.declared.step_value.StepValue.{StepValue}
 
 -- faults
 
@@ -39,7 +39,7 @@ least_among (o ∷ os) = add_fault o (least_among os)
 
 -- of a stream: its spawn clause's, or else the least of its instances
 abbrev pub fault_of : SpawnResult → List Outcome → Option FaultKind
-fault_of (spawn_result.Failed k) os = Some k
+fault_of (spawn_result.Fault k) os = Some k
 fault_of _ os = least_among os
 
 -- the fault of stream n, or else that of later streams
@@ -54,7 +54,7 @@ first_among results n _ _ = None
 
 -- whether a spawn clause failed
 abbrev pub is_failed : SpawnResult → Bool
-is_failed (spawn_result.Failed k) = true
+is_failed (spawn_result.Fault k) = true
 is_failed _ = false
 
 -- none did
@@ -87,32 +87,32 @@ abbrev pub is_hidden : Show → Stream → Bool
 is_hidden show s = elim s.sort [ sort.Input ↦ true | sort.Output ↦ hides_outputs show | sort.Trigger ↦ false ]
 
 -- adds the value of an instance of stream n with these parameters
-abbrev pub add_verdict : ℕ → Params → Outcome → List Verdict → List Verdict
-add_verdict n p (outcome.Value v) rest = record { stream = n; params = p; value = v } ∷ rest
-add_verdict n p _ rest = rest
+abbrev pub add_step_value : ℕ → Params → Outcome → List StepValue → List StepValue
+add_step_value n p (outcome.Value v) rest = record { stream = n; params = p; value = v } ∷ rest
+add_step_value n p _ rest = rest
 
 -- the values of instances of stream n that have these outcomes, each with the same parameters
-abbrev pub verdicts_with : ℕ → Params → List Outcome → List Verdict
-verdicts_with n p [] = []
-verdicts_with n p (o ∷ os) = add_verdict n p o (verdicts_with n p os)
+abbrev pub step_values_with : ℕ → Params → List Outcome → List StepValue
+step_values_with n p [] = []
+step_values_with n p (o ∷ os) = add_step_value n p o (step_values_with n p os)
 
 -- each with those of the instance that was asked
-abbrev pub verdicts_among : Seen → ℕ → List Task → List Outcome → List Verdict
-verdicts_among s n (t ∷ ts) (o ∷ os) = add_verdict n (params_given s n t.index) o (verdicts_among s n ts os)
-verdicts_among s n _ _ = []
+abbrev pub step_values_among : Seen → ℕ → List Task → List Outcome → List StepValue
+step_values_among s n (t ∷ ts) (o ∷ os) = add_step_value n (params_given s n t.index) o (step_values_among s n ts os)
+step_values_among s n _ _ = []
 
 -- of the streams from number n on that may have lines
-abbrev pub all_verdicts : Show → Seen → List Task → List Outcome → ℕ → List Stream → List Span → List Verdict
-all_verdicts show s tasks results n (x ∷ xs) (p ∷ ps) =
-    (if is_hidden show x then [] else verdicts_among s n (asked_in tasks (Some p)) (in_span results (Some p))) ++ all_verdicts show s tasks results (n + 1) xs ps
-all_verdicts show s tasks results n _ _ = []
+abbrev pub all_step_values : Show → Seen → List Task → List Outcome → ℕ → List Stream → List Span → List StepValue
+all_step_values show s tasks results n (x ∷ xs) (p ∷ ps) =
+    (if is_hidden show x then [] else step_values_among s n (asked_in tasks (Some p)) (in_span results (Some p))) ++ all_step_values show s tasks results (n + 1) xs ps
+all_step_values show s tasks results n _ _ = []
 
 -- parameters of the kinds that a layout has for the stream
-pub record FitsLayout (l : Layout) (v : Verdict) : Type 0 where
+pub record FitsLayout (l : Layout) (v : StepValue) : Type 0 where
   pub params : are_of_kinds (parameters_of (slice_get l.streams v.stream)) (the_values v.params) ≡ true
   pub well_formed : is_well_formed v.params ≡ true
 
 -- each of these has such
-abbrev pub FitLayout : Layout → List Verdict → Type 0
+abbrev pub FitLayout : Layout → List StepValue → Type 0
 FitLayout l [] = Unit {0}
 FitLayout l (v ∷ vs) = FitsLayout l v × FitLayout l vs

@@ -27,7 +27,7 @@ use Rattle.lola_step.specs.declared.spawn_result.SpawnResult.TheVariants as spaw
 use Rattle.lola_step.specs.declared.moment.Moment.{Moment}
 use Rattle.lola_step.specs.declared.scratch.Span.{Span}
 use Rattle.lola_step.specs.declared.tasks.Task.{Task}
-use Rattle.lola_step.specs.declared.verdict.Verdict.{Verdict}
+use Rattle.lola_step.specs.declared.step_value.StepValue.{StepValue}
 
 -- spawn results
 
@@ -35,7 +35,7 @@ use Rattle.lola_step.specs.declared.verdict.Verdict.{Verdict}
 abbrev pub spawn_result_of : Spawned → SpawnResult
 spawn_result_of Idle = spawn_result.Fine
 spawn_result_of (Named p) = spawn_result.Fine
-spawn_result_of (SpawnFailed k) = spawn_result.Failed k
+spawn_result_of (SpawnFailed k) = spawn_result.Fault k
 spawn_result_of SpawnPoisoned = spawn_result.Poisoned
 
 -- as far as it is done
@@ -186,22 +186,22 @@ layer_spans plan m spawn_results sought s layer from n (x ∷ xs) (p ∷ ps) =
     ∷ layer_spans plan m spawn_results sought s layer (from + length (stream_tasks plan m spawn_results sought s layer n x)) (n + 1) xs ps
 layer_spans plan m spawn_results sought s layer from n _ ps = ps
 
--- verdicts
+-- step values
 
--- a verdict with its texts
-abbrev pub read_verdict : Naming → Verdict → RowValue
-read_verdict names v = record { stream = v.stream; params = read_params names v.params; value = read names v.value }
+-- a step value with its texts
+abbrev pub read_step_value : Naming → StepValue → RowValue
+read_step_value names v = record { stream = v.stream; params = read_params names v.params; value = read names v.value }
 
--- the naming has the texts of a verdict
-abbrev pub IsVerdictHeld : Naming → Verdict → Type 0
-IsVerdictHeld names v = AreHeld names (the_values v.params) × IsHeld names v.value
+-- the naming has the texts of a step value
+abbrev pub IsStepValueHeld : Naming → StepValue → Type 0
+IsStepValueHeld names v = AreHeld names (the_values v.params) × IsHeld names v.value
 
-abbrev pub AreVerdictsHeld : Naming → List Verdict → Type 0
-AreVerdictsHeld names [] = Unit {0}
-AreVerdictsHeld names (v ∷ vs) = IsVerdictHeld names v × AreVerdictsHeld names vs
+abbrev pub AreStepValuesHeld : Naming → List StepValue → Type 0
+AreStepValuesHeld names [] = Unit {0}
+AreStepValuesHeld names (v ∷ vs) = IsStepValueHeld names v × AreStepValuesHeld names vs
 
 -- a value of a stream that is no input, of its kind, with parameters of their kinds
-pub record IsVerdict (plan : Plan) (v : Verdict) : Type 0 where
+pub record IsStepValue (plan : Plan) (v : StepValue) : Type 0 where
   pub stream : Stream
   pub stream_is : slice_get plan.spec.streams v.stream ≡ Some stream
   pub no_input : is_input stream ≡ false
@@ -209,9 +209,9 @@ pub record IsVerdict (plan : Plan) (v : Verdict) : Type 0 where
   pub params : are_of_kinds stream.parameters (the_values v.params) ≡ true
   pub well_formed : is_well_formed v.params ≡ true
 
-abbrev pub AreVerdicts : Plan → List Verdict → Type 0
-AreVerdicts plan [] = Unit {0}
-AreVerdicts plan (v ∷ vs) = IsVerdict plan v × AreVerdicts plan vs
+abbrev pub AreStepValues : Plan → List StepValue → Type 0
+AreStepValues plan [] = Unit {0}
+AreStepValues plan (v ∷ vs) = IsStepValue plan v × AreStepValues plan vs
 
 -- faults and places
 

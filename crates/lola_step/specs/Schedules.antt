@@ -8,7 +8,7 @@ use Rattle.lola_model.specs.declared.plan.Plan.{Plan}
 use Rattle.lola_model.specs.declared.spec.Stream.{Stream}
 use Rattle.lola_model.specs.declared.journal.Show.TheVariants.{Outputs, Triggers}
 use Rattle.lola_step.specs.Found.{is_hidden}
-use Rattle.lola_step.specs.declared.schedule.Layer.{Layer}
+use Rattle.lola_step.specs.declared.schedule.LayerDuties.{LayerDuties}
 use Rattle.lola_step.specs.declared.schedule.Schedule.{Schedule}
 use Rattle.lola_step.specs.declared.schedule.Duty.{Duty}
 use Rattle.lola_step.specs.declared.schedule.Duty.TheVariants as duty
@@ -43,7 +43,7 @@ abbrev pub duties_of : Plan → Duty → List ℕ
 duties_of plan t = numbers_of (has_duty plan t) 0 plan.spec.streams
 
 -- the duties of a layer
-pub record IsLayerOf (plan : Plan) (layer : ℕ) (l : Layer) : Type 0 where
+pub record IsLayerOf (plan : Plan) (layer : ℕ) (l : LayerDuties) : Type 0 where
   pub spawns : l.spawns.items ≡ duties_of plan (duty.Spawn layer)
   pub evals : l.evals.items ≡ duties_of plan (duty.Eval layer)
   pub seeks : l.seeks.items ≡ duties_of plan (duty.Seek layer)
@@ -52,7 +52,7 @@ pub record IsLayerOf (plan : Plan) (layer : ℕ) (l : Layer) : Type 0 where
 pub record IsScheduleOf (plan : Plan) (s : Schedule) : Type 0 where
   pub inputs : s.inputs.items ≡ duties_of plan duty.Input
   pub births : s.births.items ≡ duties_of plan duty.Birth
-  pub layers : (layer : ℕ) (l : Layer) → slice_get s.layers.items layer ≡ Some l → IsLayerOf plan layer l
+  pub layers : (layer : ℕ) (l : LayerDuties) → slice_get s.layers.items layer ≡ Some l → IsLayerOf plan layer l
   pub closes : s.closes.items ≡ duties_of plan duty.Close
   pub triggers : s.triggers.items ≡ duties_of plan (duty.Shown Triggers)
   pub outputs : s.outputs.items ≡ duties_of plan (duty.Shown Outputs)

@@ -24,7 +24,7 @@ pub record HasRoom (n : Scratch) (room : ℕ) : Type 0 where
   pub tasks : room ≤ vec_capacity n.tasks
   pub results : room ≤ vec_capacity n.results
   pub closing : room ≤ vec_capacity n.closing
-  pub verdicts : room ≤ vec_capacity n.verdicts
+  pub step_values : room ≤ vec_capacity n.step_values
 
 -- what a step needs where each stream has one instance: of each that one, and one that might be born
 abbrev pub least_room : Plan → ℕ
@@ -63,12 +63,12 @@ pub record IsFresh (n : Scratch) (room : ℕ) : Type 0 where
   pub tasks : n.tasks.items ≡ []
   pub results : n.results.items ≡ []
   pub closing : n.closing.items ≡ []
-  pub verdicts : n.verdicts.items ≡ []
+  pub step_values : n.step_values.items ≡ []
   pub places_room : room ≤ vec_capacity n.places
   pub tasks_room : room ≤ vec_capacity n.tasks
   pub results_room : room ≤ vec_capacity n.results
   pub closing_room : room ≤ vec_capacity n.closing
-  pub verdicts_room : room ≤ vec_capacity n.verdicts
+  pub step_values_room : room ≤ vec_capacity n.step_values
 
 -- in each run: where the store stood once the inputs were told, all is noted now and it stands for the whole row
 abbrev pub EvaluatesAll : Plan → Moment → Memories → Seen → Memories → Seen → Scratch → Type 0

@@ -17,11 +17,11 @@ use Rattle.lola_model.specs.declared.plan.Plan.{Plan}
 use Rattle.lola_model.specs.declared.spec.Stream.{Stream}
 use Rattle.lola_step_contents.specs.Ends.{lines_of}
 use Rattle.lola_step.specs.Moments.{ReadAs}
-use Rattle.lola_step.specs.Notes.{AreVerdictsHeld, read_verdict}
+use Rattle.lola_step.specs.Notes.{AreStepValuesHeld, read_step_value}
 use Rattle.lola_step.specs.Progress.{IsOf}
 use Rattle.lola_step.specs.declared.end.StepEnd.{StepEnd}
 use Rattle.lola_step.specs.declared.end.StepEnd.TheVariants as end
-use Rattle.lola_step.specs.declared.verdict.Verdict.{Verdict}
+use Rattle.lola_step.specs.declared.step_value.StepValue.{StepValue}
 
 -- an input's outcome: nothing, or a value of its kind
 abbrev pub is_input_outcome : Kind → Outcome → Bool
@@ -51,18 +51,18 @@ ReadFields names inputs true (Some fields) = ReadAs names inputs fields
 ReadFields names inputs false None = Unit {0}
 ReadFields names inputs _ _ = ⊥
 
--- a step that is done: the next row of the model has no fault, its lines are those of the verdicts, and the store stands for what is left
-pub record IsDoneStep (plan : Plan) (show : Show) (start : ℕ) (rows : List TableRow) (step : Step) (names : Naming) (remembers : Memories) (s : Seen) (verdicts : List Verdict) : Type 0 where
+-- a step that is done: the next row of the model has no fault, its lines are those of the step values, and the store stands for what is left
+pub record IsDoneStep (plan : Plan) (show : Show) (start : ℕ) (rows : List TableRow) (step : Step) (names : Naming) (remembers : Memories) (s : Seen) (step_values : List StepValue) : Type 0 where
   pub fine : has_fault (answered plan start rows step) ≡ false
-  pub lines : row_lines show plan.spec.streams (answered plan start rows step) ≡ lines_of show step.time plan.spec.streams (map (read_verdict names) verdicts)
-  pub held : AreVerdictsHeld names verdicts
+  pub lines : row_lines show plan.spec.streams (answered plan start rows step) ≡ lines_of show step.time plan.spec.streams (map (read_step_value names) step_values)
+  pub held : AreStepValuesHeld names step_values
   pub stands : Stands names remembers s (content_left start rows (answered plan start rows step))
 
 -- by the end of a step: done; the fault of the next row of the model; or without memory, and as before
-abbrev pub StepEnds : StepEnd → Plan → Show → ℕ → List TableRow → Step → Naming → Memories → Seen → List Verdict → Type 0
-StepEnds end.Done plan show start rows step names remembers s verdicts = IsDoneStep plan show start rows step names remembers s verdicts
-StepEnds (end.Fault stream kind) plan show start rows step names remembers s verdicts = IsFaulty plan start rows step stream kind
-StepEnds end.Memory plan show start rows step names remembers s verdicts = StandsBetween names remembers s (content_after plan start rows)
+abbrev pub StepEnds : StepEnd → Plan → Show → ℕ → List TableRow → Step → Naming → Memories → Seen → List StepValue → Type 0
+StepEnds end.Done plan show start rows step names remembers s step_values = IsDoneStep plan show start rows step names remembers s step_values
+StepEnds (end.Fault stream kind) plan show start rows step names remembers s step_values = IsFaulty plan start rows step stream kind
+StepEnds end.Memory plan show start rows step names remembers s step_values = StandsBetween names remembers s (content_after plan start rows)
 
 -- what the store shows after a step at a time
 pub record IsStepped (plan : Plan) (time : ℕ) (old new : Seen) : Type 0 where

@@ -8,14 +8,14 @@ ghost use Rattle.lola_model.specs.Content.{Content};
 ghost use Rattle.lola_model.specs.Model.{clause_answer, first_answer, named_params, when_answer, filled_kind};
 ghost use Rattle.lola_model.specs.Store.{IsRunning, no_params};
 ghost use Rattle.lola_model.specs.Typing.{can_ask, noted};
-ghost use Rattle.lola_expr_code.specs.Plans.{IsCodeOf, IsEvalCode, first_of};
+ghost use Rattle.lola_expr.specs.Plans.{IsCodeOf, IsEvalCode, first_of};
 ghost use Rattle.lola_expr.specs.Evaluation.{IsDenoted, Sees, is_no_value};
 ghost use Rattle.lola_step_contents.specs.Ready.{AreAskable, HasTexts, IsClauseAskable, IsWhenAskable};
 ghost use Rattle.lola_step.specs.Clauses.{IsAnswer, IsSpawning, IsWellNamed, AreExpressions, AreNamed};
 
 use lola_expr::evaluation::eval;
-use lola_expr_code::machine::run;
-use lola_expr_code::plan::{EvalCode, ExprCode};
+use lola_expr::machine::run;
+use lola_expr::plan::{EvalCode, ExprCode};
 use lola_model::expr::Expr;
 use lola_model::plan::Plan;
 use lola_model::spec::{Clause, Stream};

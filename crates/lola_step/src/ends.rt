@@ -6,9 +6,9 @@ ghost use Rattle.lola_model.specs.Acceptance.{IsAccepted};
 ghost use Rattle.lola_model.specs.Faults.{lesser_kind};
 ghost use Rattle.lola_model.specs.Named.{has_clause as has_clause_of};
 ghost use Rattle.lola_model.specs.Store.{IsRunning, instances_seen, no_params, parameters_of, spawns_in};
-ghost use Rattle.lola_step.specs.Ends.{CollectsVerdicts, FindsFault};
-ghost use Rattle.lola_step.specs.Found.{FitLayout, IsFaultless, add_fault, add_verdict, fault_of, is_hidden as is_hidden_of, least_among, verdicts_among, verdicts_with};
-ghost use Rattle.lola_step.specs.Notes.{AreOfStream, AreSpans, AreVerdicts, AreWithin, asked_in, in_span};
+ghost use Rattle.lola_step.specs.Ends.{CollectsStepValues, FindsFault};
+ghost use Rattle.lola_step.specs.Found.{FitLayout, IsFaultless, add_fault, add_step_value, fault_of, is_hidden as is_hidden_of, least_among, step_values_among, step_values_with};
+ghost use Rattle.lola_step.specs.Notes.{AreOfStream, AreSpans, AreStepValues, AreWithin, asked_in, in_span};
 ghost use Rattle.lola_step.specs.Progress.{IsOf};
 ghost use Rattle.lola_step.specs.Rooms.{rooms, total};
 ghost use Rattle.lola_step.specs.Schedules.{duties_of};
@@ -19,8 +19,8 @@ ghost use Rattle.lola_step.specs.declared.tasks.Task.{Task};
 use crate::schedule::{has_clause, stream_at};
 use crate::scratch::Span;
 use crate::spawn_result::SpawnResult;
+use crate::step_value::StepValue;
 use crate::tasks::{Task, no_parameters};
-use crate::verdict::Verdict;
 use lola_model::journal::Show;
 use lola_model::plan::Plan;
 use lola_model::spec::{Sort, Stream};
@@ -64,7 +64,7 @@ fn stream_fault(spawn_result: SpawnResult, results: &[Brief]) -> Option<FaultKin
     ensures { result ≡ fault_of spawn_result results.now }
 {
     match spawn_result {
-        SpawnResult::Failed(kind) => Some(kind),
+        SpawnResult::Fault(kind) => Some(kind),
         _ => least_fault(results),
     }
 }
@@ -130,43 +130,43 @@ pub(crate) fn fault_of_step(
     }
 }
 
-/// A verdict without parameters, to be filled in.
-fn bare_verdict() -> Verdict
+/// A step value without parameters, to be filled in.
+fn bare_step_value() -> StepValue
     ensures { result.params ≡ no_params }
 {
-    Verdict {
+    StepValue {
         stream: 0,
         params: no_parameters(),
         value: Value::Bool(false),
     }
 }
 
-/// The value of an instance that has the parameters of a verdict that is lent, if it has one. The verdict is filled in, so that its
+/// The value of an instance that has the parameters of a step value that is lent, if it has one. The step value is filled in, so that its
 /// parameters are not made anew for each.
-fn add_bare(bare: &mut Verdict, stream: u32, outcome: &Brief, verdicts: &mut Vec<Verdict>)
-    requires room { vec_len verdicts.old < vec_capacity verdicts.old }
+fn add_bare(bare: &mut StepValue, stream: u32, outcome: &Brief, step_values: &mut Vec<StepValue>)
+    requires room { vec_len step_values.old < vec_capacity step_values.old }
     ensures bare { bare.new.params ≡ bare.old.params }
-    ensures items { verdicts.new.items ≡ verdicts.old.items ++ add_verdict stream bare.old.params outcome.now [] }
-    ensures count { vec_len verdicts.new ≤ vec_len verdicts.old + 1 }
-    ensures capacity { vec_capacity verdicts.new ≡ vec_capacity verdicts.old }
+    ensures items { step_values.new.items ≡ step_values.old.items ++ add_step_value stream bare.old.params outcome.now [] }
+    ensures count { vec_len step_values.new ≤ vec_len step_values.old + 1 }
+    ensures capacity { vec_capacity step_values.new ≡ vec_capacity step_values.old }
 {
     if let Outcome::Value(value) = outcome.widen() {
         bare.stream = stream;
         bare.value = value;
-        verdicts.push_reserved(*bare);
+        step_values.push_reserved(*bare);
     }
 }
 
-/// The values of a stream's instances, which have these outcomes and the parameters of a verdict that is lent.
-fn add_alone(bare: &mut Verdict, stream: u32, results: &[Brief], verdicts: &mut Vec<Verdict>)
-    requires room { vec_len verdicts.old + length results.now ≤ vec_capacity verdicts.old }
+/// The values of a stream's instances, which have these outcomes and the parameters of a step value that is lent.
+fn add_alone(bare: &mut StepValue, stream: u32, results: &[Brief], step_values: &mut Vec<StepValue>)
+    requires room { vec_len step_values.old + length results.now ≤ vec_capacity step_values.old }
     ensures bare { bare.new.params ≡ bare.old.params }
-    ensures items { verdicts.new.items ≡ verdicts.old.items ++ verdicts_with stream bare.old.params results.now }
-    ensures count { vec_len verdicts.new ≤ vec_len verdicts.old + length results.now }
-    ensures capacity { vec_capacity verdicts.new ≡ vec_capacity verdicts.old }
+    ensures items { step_values.new.items ≡ step_values.old.items ++ step_values_with stream bare.old.params results.now }
+    ensures count { vec_len step_values.new ≤ vec_len step_values.old + length results.now }
+    ensures capacity { vec_capacity step_values.new ≡ vec_capacity step_values.old }
 {
     for outcome in results {
-        add_bare(bare, stream, outcome, verdicts);
+        add_bare(bare, stream, outcome, step_values);
     }
 }
 
@@ -178,18 +178,18 @@ fn add_value<S: StreamStore>(
     stream: u32,
     index: u32,
     outcome: Brief,
-    verdicts: &mut Vec<Verdict>,
+    step_values: &mut Vec<StepValue>,
 )
     requires spawns { IsTrue (spawns_in (slice_get (S.seen store.now).layout.streams stream)) }
     requires lives { index < length (instances_seen (S.seen store.now) stream) }
-    requires room { vec_len verdicts.old < vec_capacity verdicts.old }
-    ensures items { verdicts.new.items ≡ verdicts.old.items ++ add_verdict stream (params_given (S.seen store.now) stream index) outcome [] }
-    ensures fit { FitLayout (S.seen store.now).layout verdicts.old.items → FitLayout (S.seen store.now).layout verdicts.new.items }
-    ensures count { vec_len verdicts.new ≤ vec_len verdicts.old + 1 }
-    ensures capacity { vec_capacity verdicts.new ≡ vec_capacity verdicts.old }
+    requires room { vec_len step_values.old < vec_capacity step_values.old }
+    ensures items { step_values.new.items ≡ step_values.old.items ++ add_step_value stream (params_given (S.seen store.now) stream index) outcome [] }
+    ensures fit { FitLayout (S.seen store.now).layout step_values.old.items → FitLayout (S.seen store.now).layout step_values.new.items }
+    ensures count { vec_len step_values.new ≤ vec_len step_values.old + 1 }
+    ensures capacity { vec_capacity step_values.new ≡ vec_capacity step_values.old }
 {
     if let Outcome::Value(value) = outcome.widen() {
-        verdicts.push_reserved(Verdict {
+        step_values.push_reserved(StepValue {
             stream,
             params: store.params_of(stream, index),
             value,
@@ -203,19 +203,19 @@ fn add_values<S: StreamStore>(
     stream: u32,
     tasks: &[Task],
     results: &[Brief],
-    verdicts: &mut Vec<Verdict>,
+    step_values: &mut Vec<StepValue>,
 )
     requires spawns { IsTrue (spawns_in (slice_get (S.seen store.now).layout.streams stream)) }
     requires each { length tasks.now ≡ length results.now }
     requires asked { AreOfStream stream 0 (length (instances_seen (S.seen store.now) stream)) tasks.now }
-    requires room { vec_len verdicts.old + length results.now ≤ vec_capacity verdicts.old }
-    ensures items { verdicts.new.items ≡ verdicts.old.items ++ verdicts_among (S.seen store.now) stream tasks.now results.now }
-    ensures fit { FitLayout (S.seen store.now).layout verdicts.old.items → FitLayout (S.seen store.now).layout verdicts.new.items }
-    ensures count { vec_len verdicts.new ≤ vec_len verdicts.old + length results.now }
-    ensures capacity { vec_capacity verdicts.new ≡ vec_capacity verdicts.old }
+    requires room { vec_len step_values.old + length results.now ≤ vec_capacity step_values.old }
+    ensures items { step_values.new.items ≡ step_values.old.items ++ step_values_among (S.seen store.now) stream tasks.now results.now }
+    ensures fit { FitLayout (S.seen store.now).layout step_values.old.items → FitLayout (S.seen store.now).layout step_values.new.items }
+    ensures count { vec_len step_values.new ≤ vec_len step_values.old + length results.now }
+    ensures capacity { vec_capacity step_values.new ≡ vec_capacity step_values.old }
 {
     for (i, task) in tasks.iter().enumerate() {
-        add_value(store, stream, task.index, results[i], verdicts);
+        add_value(store, stream, task.index, results[i], step_values);
     }
 }
 
@@ -228,8 +228,8 @@ fn add_evaluated<S: StreamStore>(
     span: Span,
     tasks: &[Task],
     results: &[Brief],
-    bare: &mut Verdict,
-    verdicts: &mut Vec<Verdict>,
+    bare: &mut StepValue,
+    step_values: &mut Vec<StepValue>,
 )
     requires spawns { spawns_in (slice_get (S.seen store.now).layout.streams number) ≡ has_clause_of stream.now.spawn }
     requires unnamed { has_clause_of stream.now.spawn ≡ false → parameters_of (slice_get (S.seen store.now).layout.streams number) ≡ [] }
@@ -237,18 +237,18 @@ fn add_evaluated<S: StreamStore>(
     requires each { length tasks.now ≡ length results.now }
     requires within { span.from + span.count ≤ length results.now }
     requires asked { AreOfStream number 0 (length (instances_seen (S.seen store.now) number)) (asked_in tasks.now (Some span)) }
-    requires room { vec_len verdicts.old + span.count ≤ vec_capacity verdicts.old }
+    requires room { vec_len step_values.old + span.count ≤ vec_capacity step_values.old }
     ensures bare { bare.new.params ≡ no_params }
-    ensures items { verdicts.new.items ≡ verdicts.old.items ++ verdicts_among (S.seen store.now) number (asked_in tasks.now (Some span)) (in_span results.now (Some span)) }
-    ensures fit { FitLayout (S.seen store.now).layout verdicts.old.items → FitLayout (S.seen store.now).layout verdicts.new.items }
-    ensures count { vec_len verdicts.new ≤ vec_len verdicts.old + span.count }
-    ensures capacity { vec_capacity verdicts.new ≡ vec_capacity verdicts.old }
+    ensures items { step_values.new.items ≡ step_values.old.items ++ step_values_among (S.seen store.now) number (asked_in tasks.now (Some span)) (in_span results.now (Some span)) }
+    ensures fit { FitLayout (S.seen store.now).layout step_values.old.items → FitLayout (S.seen store.now).layout step_values.new.items }
+    ensures count { vec_len step_values.new ≤ vec_len step_values.old + span.count }
+    ensures capacity { vec_capacity step_values.new ≡ vec_capacity step_values.old }
 {
     let outcomes = outcomes_of(results, span);
     if has_clause(&stream.spawn) {
-        add_values(store, number, tasks_of(tasks, span), outcomes, verdicts);
+        add_values(store, number, tasks_of(tasks, span), outcomes, step_values);
     } else {
-        add_alone(bare, number, outcomes, verdicts);
+        add_alone(bare, number, outcomes, step_values);
     }
 }
 
@@ -281,8 +281,8 @@ fn add_asked<S: StreamStore>(
     span: Span,
     tasks: &[Task],
     results: &[Brief],
-    bare: &mut Verdict,
-    verdicts: &mut Vec<Verdict>,
+    bare: &mut StepValue,
+    step_values: &mut Vec<StepValue>,
 )
     requires spawns { spawns_in (slice_get (S.seen store.now).layout.streams number) ≡ has_clause_of stream.now.spawn }
     requires unnamed { has_clause_of stream.now.spawn ≡ false → parameters_of (slice_get (S.seen store.now).layout.streams number) ≡ [] }
@@ -290,17 +290,26 @@ fn add_asked<S: StreamStore>(
     requires each { length tasks.now ≡ length results.now }
     requires within { span.from + span.count ≤ length results.now }
     requires asked { AreOfStream number 0 (length (instances_seen (S.seen store.now) number)) (asked_in tasks.now (Some span)) }
-    requires room { vec_len verdicts.old + span.count ≤ vec_capacity verdicts.old }
+    requires room { vec_len step_values.old + span.count ≤ vec_capacity step_values.old }
     ensures bare { bare.new.params ≡ no_params }
-    ensures items { verdicts.new.items ≡ verdicts.old.items ++ verdicts_among (S.seen store.now) number (asked_in tasks.now (Some span)) (in_span results.now (Some span)) }
-    ensures fit { FitLayout (S.seen store.now).layout verdicts.old.items → FitLayout (S.seen store.now).layout verdicts.new.items }
-    ensures count { vec_len verdicts.new ≤ vec_len verdicts.old + span.count }
-    ensures capacity { vec_capacity verdicts.new ≡ vec_capacity verdicts.old }
+    ensures items { step_values.new.items ≡ step_values.old.items ++ step_values_among (S.seen store.now) number (asked_in tasks.now (Some span)) (in_span results.now (Some span)) }
+    ensures fit { FitLayout (S.seen store.now).layout step_values.old.items → FitLayout (S.seen store.now).layout step_values.new.items }
+    ensures count { vec_len step_values.new ≤ vec_len step_values.old + span.count }
+    ensures capacity { vec_capacity step_values.new ≡ vec_capacity step_values.old }
 {
     if is_empty(span) {
         return;
     }
-    add_evaluated(store, stream, number, span, tasks, results, bare, verdicts);
+    add_evaluated(
+        store,
+        stream,
+        number,
+        span,
+        tasks,
+        results,
+        bare,
+        step_values,
+    );
 }
 
 /// The values of all streams that may have lines, by the streams' numbers and in the order of birth. Which streams these are is told.
@@ -312,7 +321,7 @@ pub(crate) fn collect<S: StreamStore>(
     spans: &[Span],
     tasks: &[Task],
     results: &[Brief],
-    verdicts: &mut Vec<Verdict>,
+    step_values: &mut Vec<StepValue>,
 )
     requires duties { duties.now ≡ duties_of plan.now (duty.Shown _show) }
     requires accepted { IsAccepted plan.now }
@@ -321,18 +330,25 @@ pub(crate) fn collect<S: StreamStore>(
     requires spans { length spans.now ≡ length plan.now.spec.streams }
     requires each { length tasks.now ≡ length results.now }
     requires within { AreSpans (S.seen store.now) tasks.now results.now spans.now }
-    requires none { verdicts.old.items ≡ [] }
-    requires room { total (rooms (S.seen store.now)) ≤ vec_capacity verdicts.old }
-    ensures verdicts { AreVerdicts plan.now verdicts.new.items }
-    ensures values { CollectsVerdicts plan.now _show spans.now tasks.now results.now (S.remembers store.now) (S.seen store.now) verdicts.new.items }
-    ensures capacity { vec_capacity verdicts.new ≡ vec_capacity verdicts.old }
+    requires none { step_values.old.items ≡ [] }
+    requires room { total (rooms (S.seen store.now)) ≤ vec_capacity step_values.old }
+    ensures step_values { AreStepValues plan.now step_values.new.items }
+    ensures values { CollectsStepValues plan.now _show spans.now tasks.now results.now (S.remembers store.now) (S.seen store.now) step_values.new.items }
+    ensures capacity { vec_capacity step_values.new ≡ vec_capacity step_values.old }
 {
-    let mut bare = bare_verdict();
+    let mut bare = bare_step_value();
     for number in duties {
         let stream = stream_at(plan, *number);
         let span = spans[*number as usize];
         add_asked(
-            store, stream, *number, span, tasks, results, &mut bare, verdicts,
+            store,
+            stream,
+            *number,
+            span,
+            tasks,
+            results,
+            &mut bare,
+            step_values,
         );
     }
 }

@@ -34,7 +34,7 @@ use crate::scratch::Span;
 use crate::seek::seek;
 use crate::spawn_result::SpawnResult;
 use crate::tasks::{Task, eval_pacing_at, run_tasks, task_outcome};
-use lola_expr_code::plan::PlanCode;
+use lola_expr::plan::PlanCode;
 use lola_model::pacing::Pacing;
 use lola_model::plan::Plan;
 use lola_model::spec::Stream;

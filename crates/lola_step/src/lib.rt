@@ -19,5 +19,5 @@ mod seek;
 pub mod spawn_result;
 mod spawns;
 pub mod step;
+pub mod step_value;
 pub mod tasks;
-pub mod verdict;

@@ -4,7 +4,7 @@ ghost use Rattle.std.specs.Prelude.{ℕ, ◌≡◌, ◌<◌, ◌≤◌, ◌^◌,
 ghost use Rattle.lola_model.specs.Acceptance.{IsAccepted};
 ghost use Rattle.lola_model.specs.Named.{has_clause as has_clause_of};
 ghost use Rattle.lola_model.specs.declared.plan.Plan.{Plan};
-ghost use Rattle.lola_step.specs.declared.schedule.Layer.{Layer};
+ghost use Rattle.lola_step.specs.declared.schedule.LayerDuties.{LayerDuties};
 ghost use Rattle.lola_step.specs.Schedules.{IsLayerOf, IsScheduleOf, has_parameters as has_parameters_of, has_duty as has_duty_of, duties_of};
 ghost use Rattle.lola_step.specs.declared.schedule.Duty.TheVariants as duty;
 
@@ -37,7 +37,7 @@ pub enum Duty {
 
 /// The streams that have a duty in a layer, by their numbers.
 #[derive(Drop)]
-pub struct Layer {
+pub struct LayerDuties {
     pub(crate) spawns: Vec<u32>,
     pub(crate) evals: Vec<u32>,
     // of these, those with parameters
@@ -49,7 +49,7 @@ pub struct Layer {
 pub struct Schedule {
     pub(crate) inputs: Vec<u32>,
     pub(crate) births: Vec<u32>,
-    pub(crate) layers: Vec<Layer>,
+    pub(crate) layers: Vec<LayerDuties>,
     pub(crate) closes: Vec<u32>,
     pub(crate) triggers: Vec<u32>,
     pub(crate) outputs: Vec<u32>,
@@ -108,14 +108,14 @@ fn duties(alloc: Global, plan: &Plan, duty: Duty) -> Result<Vec<u32>, Memory>
 }
 
 /// The streams that have a duty in a layer.
-fn layer_duties(alloc: Global, plan: &Plan, layer: u32) -> Result<Layer, Memory>
+fn layer_duties(alloc: Global, plan: &Plan, layer: u32) -> Result<LayerDuties, Memory>
     requires accepted { IsAccepted plan.now }
     ensures { IfOk result (IsLayerOf plan.now layer) }
 {
     let spawns = duties(alloc, plan, Duty::Spawn(layer))?;
     let evals = duties(alloc, plan, Duty::Eval(layer))?;
     let seeks = duties(alloc, plan, Duty::Seek(layer))?;
-    Ok(Layer {
+    Ok(LayerDuties {
         spawns,
         evals,
         seeks,
@@ -123,11 +123,11 @@ fn layer_duties(alloc: Global, plan: &Plan, layer: u32) -> Result<Layer, Memory>
 }
 
 /// The streams that have a duty in each of so many layers.
-fn layers_duties(alloc: Global, plan: &Plan, count: u64) -> Result<Vec<Layer>, Memory>
+fn layers_duties(alloc: Global, plan: &Plan, count: u64) -> Result<Vec<LayerDuties>, Memory>
     requires accepted { IsAccepted plan.now }
     requires few { count ≤ 2 ^ 32 }
     ensures count { IfOk result (λ layers. length layers.items ≡ count) }
-    ensures each { IfOk result (λ layers. (layer : ℕ) (l : Layer) → slice_get layers.items layer ≡ Some l → IsLayerOf plan.now layer l) }
+    ensures each { IfOk result (λ layers. (layer : ℕ) (l : LayerDuties) → slice_get layers.items layer ≡ Some l → IsLayerOf plan.now layer l) }
 {
     let mut layers = Vec::new(alloc);
     for layer in 0..count {

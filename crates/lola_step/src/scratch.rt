@@ -12,9 +12,9 @@ ghost use Rattle.lola_step.specs.declared.schedule.Duty.TheVariants as duty;
 
 use crate::schedule::Schedule;
 use crate::spawn_result::SpawnResult;
+use crate::step_value::StepValue;
 use crate::tasks::Task;
-use crate::verdict::Verdict;
-use lola_expr_code::plan::PlanCode;
+use lola_expr::plan::PlanCode;
 use lola_model::plan::Plan;
 use lola_model::store::{StreamStore, Whereabouts};
 use lola_value::brief::Brief;
@@ -46,7 +46,7 @@ pub struct Scratch {
     // what each worker does of a layer
     pub(crate) shares: Vec<Share>,
     pub(crate) closing: Vec<Task>,
-    pub(crate) verdicts: Vec<Verdict>,
+    pub(crate) step_values: Vec<StepValue>,
     pub(crate) layers: u64,
     // which streams have a duty in a step, which is never changed
     pub(crate) schedule: Schedule,
@@ -132,7 +132,7 @@ impl Scratch {
             results: Vec::with_capacity(alloc, room)?,
             shares: empty_shares(alloc)?,
             closing: Vec::with_capacity(alloc, room)?,
-            verdicts: Vec::with_capacity(alloc, room)?,
+            step_values: Vec::with_capacity(alloc, room)?,
             layers,
             schedule,
             code: PlanCode::create(alloc, &plan.spec)?,
@@ -142,10 +142,10 @@ impl Scratch {
     }
 
     /// The values of the last step that was done, of all streams but inputs, by the streams' numbers and in the order of birth.
-    pub fn verdicts(&self) -> &[Verdict]
-        ensures { result.now ≡ self.now.verdicts.items }
+    pub fn values(&self) -> &[StepValue]
+        ensures { result.now ≡ self.now.step_values.items }
     {
-        self.verdicts.as_slice()
+        self.step_values.as_slice()
     }
 }
 
@@ -169,7 +169,7 @@ pub(crate) fn make_room<S: StreamStore>(
     clear_for(&mut scratch.tasks, room)?;
     clear_for(&mut scratch.results, room)?;
     clear_for(&mut scratch.closing, room)?;
-    clear_for(&mut scratch.verdicts, room)?;
+    clear_for(&mut scratch.step_values, room)?;
     Ok(())
 }
 

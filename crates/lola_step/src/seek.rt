@@ -4,7 +4,7 @@ ghost use Rattle.std.specs.Prelude.{◌≡◌, ◌<◌, slice_get, length};
 ghost use Rattle.lola_model.specs.Store.{IsRunning, layout_of};
 ghost use Rattle.lola_step.specs.Sought.{IsFalseElsewhere, MayAskWhen};
 
-use lola_expr_code::sought::whereabouts;
+use lola_expr::sought::whereabouts;
 use lola_model::plan::Plan;
 use lola_model::spec::Clause;
 use lola_model::store::{StreamStore, Whereabouts};

@@ -8,7 +8,7 @@ pub enum SpawnResult {
     /// Nothing, or it named an instance.
     Fine,
     /// It has a fault of its own.
-    Failed(FaultKind),
+    Fault(FaultKind),
     /// It is poisoned.
     Poisoned,
 }

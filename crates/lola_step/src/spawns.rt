@@ -56,7 +56,7 @@ fn take_named<S: StreamStore>(store: &mut S, stream: u32, params: Params) -> Spa
         SpawnEnd::Living => SpawnResult::Fine,
         SpawnEnd::TooMany => {
             poison_stream(store, stream);
-            SpawnResult::Failed(FaultKind::TooManyInstances)
+            SpawnResult::Fault(FaultKind::TooManyInstances)
         }
     }
 }
@@ -73,7 +73,7 @@ fn take<S: StreamStore>(store: &mut S, stream: u32, asked: Spawning) -> SpawnRes
         Spawning::Named(params) => take_named(store, stream, params),
         Spawning::Fault(kind) => {
             poison_stream(store, stream);
-            SpawnResult::Failed(kind)
+            SpawnResult::Fault(kind)
         }
         Spawning::Poison => {
             poison_stream(store, stream);
@@ -119,7 +119,7 @@ fn or_failed(failed: bool, spawn_result: SpawnResult) -> bool
     ensures { result ≡ (is_failed spawn_result || failed) }
 {
     match spawn_result {
-        SpawnResult::Failed(_) => true,
+        SpawnResult::Fault(_) => true,
         _ => failed,
     }
 }

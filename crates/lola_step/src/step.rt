@@ -15,7 +15,7 @@ ghost use Rattle.lola_step.specs.Beginnings.{moment_at};
 ghost use Rattle.lola_step.specs.Conclusions.{Concludes, ShowsConcluded};
 ghost use Rattle.lola_step.specs.Evals.{IsReadyFor};
 ghost use Rattle.lola_step.specs.Found.{IsFaultless};
-ghost use Rattle.lola_step.specs.Notes.{AreSpans, AreVerdicts};
+ghost use Rattle.lola_step.specs.Notes.{AreSpans, AreStepValues};
 ghost use Rattle.lola_step.specs.Progress.{GoesOn, IsAt, IsMomentOf, IsOf, IsRun};
 ghost use Rattle.lola_step.specs.Scratches.{EvaluatesAll, IsFresh, IsScratchOf, instances_to_come};
 ghost use Rattle.lola_step.specs.Rooms.{rooms, total};
@@ -89,7 +89,7 @@ fn evaluate<R: Threads + Sync, S: StreamStore + Sync, G: Gate + Sync>(
     ensures spans { IsReadyFor plan.now (layer_stage (length plan.now.spec.streams) scratch.new.layers) (S.seen store.new) scratch.new.tasks.items scratch.new.results.items scratch.new.spans.items }
     ensures each { length scratch.new.tasks.items ≡ length scratch.new.results.items }
     ensures places { vec_capacity scratch.new.places ≡ vec_capacity scratch.old.places }
-    ensures kept { (scratch.new.closing ≡ scratch.old.closing) × (scratch.new.verdicts ≡ scratch.old.verdicts) }
+    ensures kept { (scratch.new.closing ≡ scratch.old.closing) × (scratch.new.step_values ≡ scratch.old.step_values) }
     ensures faultless { scratch.new.is_faulty ≡ false → IsFaultless scratch.new.spawn_results.items scratch.new.results.items }
     ensures evaluates { EvaluatesAll plan.now moment.now (S.remembers store.old) (S.seen store.old) (S.remembers store.new) (S.seen store.new) scratch.new }
 {
@@ -148,15 +148,15 @@ fn conclude<S: StreamStore>(
     requires each { length scratch.old.tasks.items ≡ length scratch.old.results.items }
     requires within { AreSpans (S.seen store.old) scratch.old.tasks.items scratch.old.results.items scratch.old.spans.items }
     requires faultless { scratch.old.is_faulty ≡ false → IsFaultless scratch.old.spawn_results.items scratch.old.results.items }
-    requires none { (scratch.old.closing.items ≡ []) × (scratch.old.verdicts.items ≡ []) }
+    requires none { (scratch.old.closing.items ≡ []) × (scratch.old.step_values.items ≡ []) }
     requires places_room { total (rooms (S.seen store.old)) ≤ vec_capacity scratch.old.places }
     requires closing_room { total (rooms (S.seen store.old)) ≤ vec_capacity scratch.old.closing }
-    requires verdicts_room { total (rooms (S.seen store.old)) ≤ vec_capacity scratch.old.verdicts }
+    requires step_values_room { total (rooms (S.seen store.old)) ≤ vec_capacity scratch.old.step_values }
     ensures made { IsScratchOf plan.now scratch.new }
-    ensures verdicts { result ≡ end.Done → AreVerdicts plan.now scratch.new.verdicts.items }
+    ensures step_values { result ≡ end.Done → AreStepValues plan.now scratch.new.step_values.items }
     ensures seen { ShowsConcluded result plan.now (S.seen store.old) (S.seen store.new) }
     ensures concludes { Concludes plan.now show moment.now scratch.old.spawn_results.items scratch.old.spans.items scratch.old.tasks.items scratch.old.results.items (S.remembers store.old) (S.seen store.old)
-        result (S.remembers store.new) (S.seen store.new) scratch.new.verdicts.items }
+        result (S.remembers store.new) (S.seen store.new) scratch.new.step_values.items }
 {
     if let Some((stream, kind)) = fault_of_step(
         plan,
@@ -185,7 +185,7 @@ fn conclude<S: StreamStore>(
         &scratch.spans,
         &scratch.tasks,
         &scratch.results,
-        &mut scratch.verdicts,
+        &mut scratch.step_values,
     );
     close_all(plan, store, &scratch.closing);
     StepEnd::Done
@@ -242,13 +242,13 @@ pub fn step<R: Threads + Sync, S: StreamStore + Sync, G: Gate + Sync>(
     requires inputs { AreInputs is_row plan.now.spec.streams inputs.now }
     requires workers { (1 ≤ workers) × (workers ≤ 64) }
     ensures made { IsScratchOf plan.now scratch.new }
-    ensures verdicts { result ≡ end.Done → AreVerdicts plan.now scratch.new.verdicts.items }
+    ensures step_values { result ≡ end.Done → AreStepValues plan.now scratch.new.step_values.items }
     ensures seen { ShowsEnd result plan.now time (S.seen store.old) (S.seen store.new) }
     ensures never { IsTrue S.BOUNDED → IsTrue (never_spawns (S.seen store.old).layout.streams) → result ≡ end.Memory → ⊥ }
     ensures ends { (names : Naming) (rows : List TableRow) (of : Step) → IsRun plan.now names rows → of.time ≡ time
         → ReadFields names inputs.now is_row of.fields
         → StandsBetween names (S.remembers store.old) (S.seen store.old) (content_after plan.now start rows)
-        → StepEnds result plan.now show start rows of names (S.remembers store.new) (S.seen store.new) scratch.new.verdicts.items }
+        → StepEnds result plan.now show start rows of names (S.remembers store.new) (S.seen store.new) scratch.new.step_values.items }
 {
     if let Err(Memory) = make_all_room(plan, store, scratch) {
         return StepEnd::Memory;

@@ -6,7 +6,7 @@ ghost use Rattle.lola_value.specs.Naming.{the_values};
 ghost use Rattle.lola_value.specs.Times.{latest};
 ghost use Rattle.lola_model.specs.Model.{clause_answer, eval_pacing, filled_kind};
 ghost use Rattle.lola_model.specs.Store.{IsRunning, instances_seen, layout_of, no_params, parameters_of};
-ghost use Rattle.lola_expr_code.specs.Plans.{IsEvalCode};
+ghost use Rattle.lola_expr.specs.Plans.{IsEvalCode};
 ghost use Rattle.lola_step_contents.specs.Ready.{IsClauseAskable};
 ghost use Rattle.lola_step.specs.Clauses.{IsAnswer};
 ghost use Rattle.lola_step.specs.Once.{AreReady-prop};
@@ -15,7 +15,7 @@ ghost use Rattle.lola_step.specs.Tasks.{AreReady, AreTasks, IsActiveTask, IsOutc
 use crate::clauses::instance_outcome;
 use crate::moment::{Moment, is_active_for};
 use crate::schedule::has_clause;
-use lola_expr_code::plan::{EvalCode, PlanCode};
+use lola_expr::plan::{EvalCode, PlanCode};
 use lola_model::job::Job;
 use lola_model::pacing::{ClausePacings, Pacing};
 use lola_model::plan::Plan;

@@ -25,12 +25,12 @@ pub fn steps_go(_plan: &Plan)
 {}
 
 /// Before the first step each stream without a spawn clause has its one instance, and no other has any.
-pub fn settled_at_first(_plan: &Plan)
+pub fn one_instance_at_first(_plan: &Plan)
     ensures { AreSettled _plan.now [] }
 {}
 
 /// And so after each step: what has no spawn clause is never born again, nor closed, and what is born is born in the row of the step.
-pub fn settled_after_each(_plan: &Plan)
+pub fn one_instance_after_each(_plan: &Plan)
     requires { IsAccepted _plan.now }
     ensures { StaySettled _plan.now }
 {}

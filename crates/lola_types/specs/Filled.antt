@@ -35,23 +35,23 @@ note_part place Unknown = place
 note_part place Broken = place
 
 -- a free part, and the free parts in it, with the kind that it takes
-abbrev pub settled : Kind → Expr → Expr
-settled k (Literal place v) = Literal (note place k) v
-settled k (Parameter place i) = Parameter place i
-settled k (Read place n how args) = Read place n how args
-settled k (Window place w args) = Window place w args
-settled k (Defaults' place u a v b) = Defaults' (note place k) u (settled k a) v (settled k b)
-settled k (Unary' place operator u a) = Unary' (note place k) operator u (settled k a)
-settled k (Both' place operator u a v b) = Both' (note place k) operator u (settled k a) v (settled k b)
-settled k (Choice' place u t v a w b) = Choice' (note place k) u t v (settled k a) w (settled k b)
+abbrev pub given_kind : Kind → Expr → Expr
+given_kind k (Literal place v) = Literal (note place k) v
+given_kind k (Parameter place i) = Parameter place i
+given_kind k (Read place n how args) = Read place n how args
+given_kind k (Window place w args) = Window place w args
+given_kind k (Defaults' place u a v b) = Defaults' (note place k) u (given_kind k a) v (given_kind k b)
+given_kind k (Unary' place operator u a) = Unary' (note place k) operator u (given_kind k a)
+given_kind k (Both' place operator u a v b) = Both' (note place k) operator u (given_kind k a) v (given_kind k b)
+given_kind k (Choice' place u t v a w b) = Choice' (note place k) u t v (given_kind k a) w (given_kind k b)
 
 -- an operand, with the kind that it takes, if there is one and it is free
-abbrev pub settled_if : Option Kind → Found → Expr → Expr
-settled_if None p e = e
-settled_if (Some k) (Of l c) e = e
-settled_if (Some k) Free e = settled k e
-settled_if (Some k) Unknown e = e
-settled_if (Some k) Broken e = e
+abbrev pub filled_if_free : Option Kind → Found → Expr → Expr
+filled_if_free None p e = e
+filled_if_free (Some k) (Of l c) e = e
+filled_if_free (Some k) Free e = given_kind k e
+filled_if_free (Some k) Unknown e = e
+filled_if_free (Some k) Broken e = e
 
 module _ (s : Setting) where
   abbrev mutual
@@ -63,23 +63,23 @@ module _ (s : Setting) where
     filled (Window place w args) = Window (note_part place (found s (Window place w args))) w (filled_all (window_parameters s (slice_get s.windows w)) args)
     filled (Defaults' place u a v b) =
         Defaults' (note_part place (found s (Defaults' place u a v b)))
-        u (settled_if (taken (found s (Defaults' place u a v b))) (found s a) (filled a))
-        v (settled_if (taken (found s (Defaults' place u a v b))) (found s b) (filled b))
+        u (filled_if_free (taken (found s (Defaults' place u a v b))) (found s a) (filled a))
+        v (filled_if_free (taken (found s (Defaults' place u a v b))) (found s b) (filled b))
     filled (Unary' place operator u a) =
-        Unary' (note_part place (found s (Unary' place operator u a))) operator u (settled_if (taken (found s (Unary' place operator u a))) (found s a) (filled a))
+        Unary' (note_part place (found s (Unary' place operator u a))) operator u (filled_if_free (taken (found s (Unary' place operator u a))) (found s a) (filled a))
     filled (Both' place operator u a v b) =
         Both' (note_part place (found s (Both' place operator u a v b))) operator
-        u (settled_if (operand_kind operator (found s (Both' place operator u a v b)) (joint (found s a) (found s b))) (found s a) (filled a))
-        v (settled_if (operand_kind operator (found s (Both' place operator u a v b)) (joint (found s a) (found s b))) (found s b) (filled b))
+        u (filled_if_free (operand_kind operator (found s (Both' place operator u a v b)) (joint (found s a) (found s b))) (found s a) (filled a))
+        v (filled_if_free (operand_kind operator (found s (Both' place operator u a v b)) (joint (found s a) (found s b))) (found s b) (filled b))
     filled (Choice' place u t v a w b) =
         Choice' (note_part place (found s (Choice' place u t v a w b))) u (filled t)
-        v (settled_if (taken (found s (Choice' place u t v a w b))) (found s a) (filled a))
-        w (settled_if (taken (found s (Choice' place u t v a w b))) (found s b) (filled b))
+        v (filled_if_free (taken (found s (Choice' place u t v a w b))) (found s a) (filled a))
+        w (filled_if_free (taken (found s (Choice' place u t v a w b))) (found s b) (filled b))
 
     -- arguments, which take the kinds of the parameters
     pub filled_all : List Kind → Arguments → Arguments
     filled_all ks End = End
-    filled_all ks (More' u a v rest) = More' u (settled_if (slice_get ks 0) (found s a) (filled a)) v (filled_all (drop 1 ks) rest)
+    filled_all ks (More' u a v rest) = More' u (filled_if_free (slice_get ks 0) (found s a) (filled a)) v (filled_all (drop 1 ks) rest)
 
 -- two expressions that differ in the addresses of their boxes alone
 abbrev mutual
@@ -117,7 +117,7 @@ SamePace _ _ = ⊥
 
 -- a whole expression that has to be of this kind, with the kinds of all its parts
 abbrev pub filled_whole : Setting → Kind → Expr → Expr
-filled_whole s want e = settled_if (number_kind want) (found s e) (filled s e)
+filled_whole s want e = filled_if_free (number_kind want) (found s e) (filled s e)
 
 -- a condition, filled in
 abbrev pub FilledWhen : Setting → Option Expr → Option Expr → Type 0

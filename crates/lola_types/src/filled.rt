@@ -1,10 +1,10 @@
 //! Expressions with their kinds filled in.
-#![tactic(auto, using(crate::proofs::SameLemmas::same_settled_if, crate::proofs::Arguments::fit_first))]
+#![tactic(auto, using(crate::proofs::SameLemmas::same_filled_if_free, crate::proofs::Arguments::fit_first))]
 
 ghost use Rattle.std.specs.Prelude.{◌≡◌, IfOk};
 ghost use Rattle.lola_types.specs.Around.{setting};
 ghost use Rattle.lola_types.specs.Found.{found as found_in, found_all, some_broken, arguments_fit};
-ghost use Rattle.lola_types.specs.Filled.{note_part, settled, settled_if, filled, filled_all, SameTree, SameArguments};
+ghost use Rattle.lola_types.specs.Filled.{note_part, given_kind, filled_if_free, filled, filled_all, SameTree, SameArguments};
 
 use crate::around::Around;
 use crate::found::{self, Found};
@@ -32,40 +32,40 @@ fn noted(place: Place, part: Found) -> Place
 }
 
 /// Gives a free part, and the free parts in it, the kind that it takes.
-fn settle(expr: &mut Expr, kind: Kind)
-    ensures { expr.new ≡ settled kind expr.old }
+fn give_kind(expr: &mut Expr, kind: Kind)
+    ensures { expr.new ≡ given_kind kind expr.old }
 {
     match expr {
         Expr::Literal(place, _) => place.kind = Some(kind),
         Expr::Parameter(_, _) | Expr::Read(_, _, _, _) | Expr::Window(_, _, _) => {}
         Expr::Unary(place, _, a) => {
             place.kind = Some(kind);
-            settle(a, kind);
+            give_kind(a, kind);
         }
         Expr::Defaults(place, a, b) => {
             place.kind = Some(kind);
-            settle(a, kind);
-            settle(b, kind);
+            give_kind(a, kind);
+            give_kind(b, kind);
         }
         Expr::Both(place, _, a, b) => {
             place.kind = Some(kind);
-            settle(a, kind);
-            settle(b, kind);
+            give_kind(a, kind);
+            give_kind(b, kind);
         }
         Expr::Choice(place, _, a, b) => {
             place.kind = Some(kind);
-            settle(a, kind);
-            settle(b, kind);
+            give_kind(a, kind);
+            give_kind(b, kind);
         }
     }
 }
 
 /// Gives an operand the kind that it takes, if there is one and it is free.
-pub fn settle_if(kind: Option<Kind>, part: Found, expr: &mut Expr)
-    ensures { expr.new ≡ settled_if kind part expr.old }
+pub fn fill_if_free(kind: Option<Kind>, part: Found, expr: &mut Expr)
+    ensures { expr.new ≡ filled_if_free kind part expr.old }
 {
     match kind {
-        Some(kind) if part == Found::Free => settle(expr, kind),
+        Some(kind) if part == Found::Free => give_kind(expr, kind),
         _ => {}
     }
 }
@@ -86,10 +86,10 @@ pub struct FilledArguments {
 
 /// A box with an operand, which takes this kind if there is one and it is free.
 fn boxed(alloc: Global, kind: Option<Kind>, operand: Filled) -> Result<Box<Expr>, Memory>
-    ensures { IfOk result (λ b. b.value ≡ settled_if kind operand.part operand.expr) }
+    ensures { IfOk result (λ b. b.value ≡ filled_if_free kind operand.part operand.expr) }
 {
     let mut expr = operand.expr;
-    settle_if(kind, operand.part, &mut expr);
+    fill_if_free(kind, operand.part, &mut expr);
     Ok(Box::new(alloc, expr)?)
 }
 

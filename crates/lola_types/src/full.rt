@@ -1,5 +1,5 @@
 //! Specifications with their kinds filled in.
-#![tactic(auto, using(crate::proofs::SameLemmas::same_settled_if))]
+#![tactic(auto, using(crate::proofs::SameLemmas::same_filled_if_free))]
 
 ghost use Rattle.std.specs.Prelude.{◌≡◌, [], ◌∷◌, IfOk};
 ghost use Rattle.lola_types.specs.Around.{setting};
@@ -9,7 +9,7 @@ ghost use Rattle.lola_types.specs.Filled.{SameTree, filled_whole, FilledWhen, Fi
 
 use crate::around::Around;
 use crate::copies;
-use crate::filled::{fill, settle_if};
+use crate::filled::{fill, fill_if_free};
 use crate::left_out::{kinds, standing};
 use crate::wholes::{first_refusal, kind_at, number_kind, stream_kind, within};
 use lola_model::expr::Expr;
@@ -25,7 +25,7 @@ fn fill_whole(alloc: Global, around: &Around, want: Kind, expr: &Expr) -> Result
 {
     let filled = fill(alloc, around, expr)?;
     let mut full = filled.expr;
-    settle_if(number_kind(want), filled.part, &mut full);
+    fill_if_free(number_kind(want), filled.part, &mut full);
     Ok(full)
 }
 

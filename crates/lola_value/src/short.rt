@@ -73,7 +73,7 @@ pub fn is_value(o: Short) -> bool
 }
 
 /// A truth value.
-pub fn verdict(b: bool) -> Short
+pub fn truth(b: bool) -> Short
     ensures { widened result ≡ outcome.Value (value.Bool b) }
 {
     if b { Short::True } else { Short::False }
@@ -85,7 +85,7 @@ pub fn narrow_value(v: Value) -> Short
     ensures { widened result ≡ outcome.Value v }
 {
     match v {
-        Value::Bool(b) => verdict(b),
+        Value::Bool(b) => truth(b),
         Value::Int(z) => {
             if z > 9223372036854775807 {
                 Short::Large(z as u64)

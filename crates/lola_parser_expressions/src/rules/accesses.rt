@@ -13,8 +13,8 @@ use lola_lexer::shape::TokenShape;
 use lola_parser_cursor::cursor::Parser;
 use lola_parser_cursor::joined::defaults;
 use lola_parser_grammar::error::ParseError;
-use lola_parser_tree::expressions::{Access, Expr};
-use lola_parser_tree::literals::{Name, Quantity};
+use lola_parser_grammar::expressions::{Access, Expr};
+use lola_parser_grammar::literals::{Name, Quantity};
 use sqlite_items::Items;
 use std::alloc::{AllocError, Global};
 

@@ -10,7 +10,7 @@ use lola_parser_cursor::cursor::Parser;
 use lola_parser_cursor::joined::binary;
 use lola_parser_cursor::operators;
 use lola_parser_grammar::error::ParseError;
-use lola_parser_tree::expressions::Expr;
+use lola_parser_grammar::expressions::Expr;
 use std::alloc::Global;
 
 impl<F: Fn(Global, &mut Parser<'_>, bool, usize) -> Result<Expr, ParseError>> Rules<F> {

@@ -13,8 +13,8 @@ use lola_parser_cursor::cursor::Parser;
 use lola_parser_cursor::joined::{defaults, prefix};
 use lola_parser_cursor::words::word_literal;
 use lola_parser_grammar::error::ParseError;
-use lola_parser_tree::expressions::{Expr, Prefix};
-use lola_parser_tree::literals::{Literal, Value};
+use lola_parser_grammar::expressions::{Expr, Prefix};
+use lola_parser_grammar::literals::{Literal, Value};
 use std::alloc::Global;
 
 impl<F: Fn(Global, &mut Parser<'_>, bool, usize) -> Result<Expr, ParseError>> Rules<F> {

@@ -1,4 +1,4 @@
-use Rattle.lola_model_parts.proofs.Passing.{any_streams}
+use Rattle.lola_model.proofs.Passing.{any_streams}
 use Rattle.lola_bounds.proofs.RaiseLemmas.{greatest_of_streams}
 use Rattle.lola_bounds.proofs.offsets.greatest_onto.Goals as goal
 

@@ -1,4 +1,4 @@
-use Rattle.lola_model_parts.proofs.Passing.{any_streams}
+use Rattle.lola_model.proofs.Passing.{any_streams}
 use Rattle.lola_bounds.proofs.RaiseLemmas.{raised_streams}
 use Rattle.lola_bounds.proofs.offsets.raise_by_streams.Goals as goal
 

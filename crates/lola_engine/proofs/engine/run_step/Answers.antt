@@ -27,8 +27,8 @@ returns-in-Err-clause-goes g c of at read =
     let s = g.S.StreamStore.seen c.args.store.now in
     let m1 = g.S.StreamStore.remembers c.step.new.store in
     let s1 = g.S.StreamStore.seen c.step.new.store in
-    goes_cut t c.args.start of m s c.args.lines.now c.put_lines.new.to c.args.time at m1 s1 c.verdicts.result.now
-    (λ table run stands. subst (λ vs. IsDoneStep t.plan t.show c.args.start table of t.names m1 s1 vs) (sym c.verdicts.ensures) (c.in-Done.ensures.ends c.args.state.now.texts.held table of run at read stands))
+    goes_cut t c.args.start of m s c.args.lines.now c.put_lines.new.to c.args.time at m1 s1 c.values.result.now
+    (λ table run stands. subst (λ vs. IsDoneStep t.plan t.show c.args.start table of t.names m1 s1 vs) (sym c.values.ensures) (c.in-Done.ensures.ends c.args.state.now.texts.held table of run at read stands))
     t m1 s1 c.in-Err.ensures.memory
 
 pub returns-clause-goes : goal.returns-clause-goes
@@ -38,6 +38,6 @@ returns-clause-goes g c of at read =
     let s = g.S.StreamStore.seen c.args.store.now in
     let m1 = g.S.StreamStore.remembers c.step.new.store in
     let s1 = g.S.StreamStore.seen c.step.new.store in
-    goes_done t c.args.start of m s c.args.lines.now c.put_lines.new.to c.args.time at m1 s1 c.verdicts.result.now
-    (λ table run stands. subst (λ vs. IsDoneStep t.plan t.show c.args.start table of t.names m1 s1 vs) (sym c.verdicts.ensures) (c.in-Done.ensures.ends c.args.state.now.texts.held table of run at read stands))
+    goes_done t c.args.start of m s c.args.lines.now c.put_lines.new.to c.args.time at m1 s1 c.values.result.now
+    (λ table run stands. subst (λ vs. IsDoneStep t.plan t.show c.args.start table of t.names m1 s1 vs) (sym c.values.ensures) (c.in-Done.ensures.ends c.args.state.now.texts.held table of run at read stands))
     c.requires.sound.accepted c.in-Ok.count c.in-Ok.ensures.count c.in-Ok.ensures.text

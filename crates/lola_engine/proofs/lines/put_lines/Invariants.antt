@@ -3,9 +3,9 @@ use Rattle.std.proofs.Common.{◌≡◌, ◌≤◌, ◌++◌, take, length, flat
 use Rattle.lola_engine.proofs.LinesPut.{lines-all, text-for}
 use Rattle.lola_engine.proofs.lines.put_lines.Given as goal
 
-abbrev pub invariant-loop-verdict : goal.invariant-loop-verdict
-invariant-loop-verdict l = record {
-  text : l.to ≡ l.fn.to ++ flat_map (text-for l.show l.time l.plan.spec.streams l.texts.held) (take l.verdict-index l.verdicts);
-  count : l.count ≡ length (lines-all l.show l.time l.plan.spec.streams l.texts.held (take l.verdict-index l.verdicts));
-  few : l.count ≤ l.verdict-index;
+abbrev pub invariant-loop-step_value : goal.invariant-loop-step_value
+invariant-loop-step_value l = record {
+  text : l.to ≡ l.fn.to ++ flat_map (text-for l.show l.time l.plan.spec.streams l.texts.held) (take l.step_value-index l.step_values);
+  count : l.count ≡ length (lines-all l.show l.time l.plan.spec.streams l.texts.held (take l.step_value-index l.step_values));
+  few : l.count ≤ l.step_value-index;
 }

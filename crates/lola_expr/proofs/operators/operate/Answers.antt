@@ -104,12 +104,12 @@ returns-in-Rem c =
 
 pub returns-in-Equal-clause-value : goal.returns-in-Equal-clause-value
 returns-in-Equal-clause-value c = λ names n p q.
-    ap (read_outcome names) c.verdict-in-Equal.ensures
+    ap (read_outcome names) c.truth_of-in-Equal.ensures
     ∙ (ap (λ b. Given (field.Bool b)) (c.equal.ensures ∙ values_same-read names n c.args.a c.args.b p q)
     ∙ ap (λ s. operated s c.args.kind (read names c.args.a) (read names c.args.b)) (sym c.in-Equal.is))
 
 pub returns-in-Different-clause-value : goal.returns-in-Different-clause-value
 returns-in-Different-clause-value c = λ names n p q.
-    ap (read_outcome names) c.verdict-in-Different.ensures
+    ap (read_outcome names) c.truth_of-in-Different.ensures
     ∙ (ap (λ b. Given (field.Bool (not b))) (c.equal-in-Different.ensures ∙ values_same-read names n c.args.a c.args.b p q)
     ∙ ap (λ s. operated s c.args.kind (read names c.args.a) (read names c.args.b)) (sym c.in-Different.is))

@@ -1,5 +1,5 @@
 use Rattle.std.proofs.Common.{◌≡◌, ◌++◌, drop, map}
-use Rattle.lola_parser_tree.specs.declared.clauses.Part.{Part as TreePart}
+use Rattle.lola_parser_grammar.specs.declared.clauses.Part.{Part as TreePart}
 use Rattle.lola_names.proofs.clauses.places.Given as goal
 
 abbrev pub invariant-loop-part : goal.invariant-loop-part

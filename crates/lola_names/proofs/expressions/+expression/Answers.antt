@@ -1,5 +1,5 @@
 use Rattle.std.proofs.Common.{◌≡◌, ◌++◌, ◌∷◌, [], List, Option, Result, Ok, Err, IfOk, refl, sym, ap, subst, ◌+◌, drop}
-use Rattle.lola_parser_tree.specs.declared.expressions.Expr.{Expr as TreeExpr}
+use Rattle.lola_parser_grammar.specs.declared.expressions.Expr.{Expr as TreeExpr}
 use Rattle.lola_model.specs.Parts.{listed, listed_with}
 use Rattle.lola_model.specs.Named.{window_number, literal_text}
 use Rattle.lola_model.specs.declared.expr.Place.{Place}

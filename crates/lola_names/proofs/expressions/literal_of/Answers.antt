@@ -1,6 +1,6 @@
 use Rattle.std.proofs.Common.{Some, sym, subst}
 use Rattle.lola_value.specs.declared.value.Kind.{Kind}
-use Rattle.lola_parser_tree.specs.declared.declarations.Declaration.{Declaration}
+use Rattle.lola_parser_grammar.specs.declared.declarations.Declaration.{Declaration}
 use Rattle.lola_names.specs.Resolved.{IsConstantUse, IsLiteral}
 use Rattle.lola_names.proofs.expressions.literal_of.Goals as goal
 

@@ -1,5 +1,5 @@
 use Rattle.std.proofs.Common.{◌≡◌, ◌++◌, drop, map}
-use Rattle.lola_parser_tree.specs.declared.literals.Typed.{Typed}
+use Rattle.lola_parser_grammar.specs.declared.literals.Typed.{Typed}
 use Rattle.lola_names.specs.Resolved.{kind_spelled}
 use Rattle.lola_names.proofs.outputs.kinds.Given as goal
 

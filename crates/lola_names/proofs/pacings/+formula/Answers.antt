@@ -1,5 +1,5 @@
 use Rattle.std.proofs.Common.{sym, subst}
-use Rattle.lola_parser_tree.specs.declared.pacing.Formula.{Formula as TreeFormula}
+use Rattle.lola_parser_grammar.specs.declared.pacing.Formula.{Formula as TreeFormula}
 use Rattle.lola_model.specs.declared.spec.Formula.{Formula}
 use Rattle.lola_model.specs.declared.spec.Formula.TheVariants as m
 use Rattle.lola_names.specs.Made.{IsFormulaBy}

@@ -1,5 +1,5 @@
 use Rattle.std.proofs.Common.{List, subst}
-use Rattle.lola_parser_tree.specs.declared.declarations.Declaration.{Declaration}
+use Rattle.lola_parser_grammar.specs.declared.declarations.Declaration.{Declaration}
 use Rattle.lola_names_refused.specs.Refused.{refusals_of}
 use Rattle.lola_names.specs.Specification.{Resolves}
 use Rattle.lola_names.proofs.WholeLemmas.{is_first, is_none}

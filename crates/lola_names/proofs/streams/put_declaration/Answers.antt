@@ -1,6 +1,6 @@
 use Rattle.std.proofs.Common.{◌++◌, ◌∙◌, List, ap, map}
-use Rattle.lola_parser_tree.specs.declared.literals.Typed.{Typed}
-use Rattle.lola_parser_tree.specs.declared.declarations.Declaration.TheVariants as d
+use Rattle.lola_parser_grammar.specs.declared.literals.Typed.{Typed}
+use Rattle.lola_parser_grammar.specs.declared.declarations.Declaration.TheVariants as d
 use Rattle.lola_names.specs.Clauses.{input_stream}
 use Rattle.lola_names.proofs.StreamLemmas.{puts_same, puts_inputs, puts_constant, puts_trigger}
 use Rattle.lola_names.proofs.streams.put_declaration.Goals as goal

@@ -1,5 +1,5 @@
 use Rattle.std.proofs.Common.{sym, subst}
-use Rattle.lola_parser_tree.specs.declared.declarations.Declaration.{Declaration}
+use Rattle.lola_parser_grammar.specs.declared.declarations.Declaration.{Declaration}
 use Rattle.lola_names.specs.Targets.{targets_with}
 use Rattle.lola_names.specs.Tables.{PutsBehind, count_of}
 use Rattle.lola_names.specs.declared.targets.Target.TheVariants as target

@@ -1,6 +1,6 @@
 use Rattle.lola_names_refused.specs.Refused as refused
 use Rattle.lola_names_refused.proofs.Noting.{find_turn, find_end}
-use Rattle.lola_parser_tree.specs.declared.literals.Typed.{Typed}
+use Rattle.lola_parser_grammar.specs.declared.literals.Typed.{Typed}
 use Rattle.lola_names_refused.proofs.uses.kind_uses.Goals as goal
 
 pub loop-item-preserved : goal.loop-item-preserved

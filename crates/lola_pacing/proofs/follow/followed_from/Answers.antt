@@ -1,7 +1,7 @@
 use Rattle.std.proofs.Common.{ap, ◌∙◌, ◌++◌, ℕ, List}
 use Rattle.lola_model.specs.Leaves.{followed, followed_in}
-use Rattle.lola_model_parts.proofs.Fused.{gathered_clause}
-use Rattle.lola_model_parts.proofs.Passing.{any_clause}
+use Rattle.lola_model.proofs.Fused.{gathered_clause}
+use Rattle.lola_model.proofs.Passing.{any_clause}
 use Rattle.lola_pacing.specs.Reading.{followed_part}
 use Rattle.lola_pacing.proofs.PartLemmas.{followed_each}
 use Rattle.lola_pacing.proofs.follow.followed_from.Goals as goal

@@ -2,8 +2,8 @@ use Rattle.std.proofs.Common.{ap, ◌∙◌, ◌++◌, List}
 use Rattle.lola_model.specs.Parts.{listed_clause}
 use Rattle.lola_model.specs.PacingRefused.{used}
 use Rattle.lola_model.specs.declared.uses.Use.{Use}
-use Rattle.lola_model_parts.proofs.Fused.{gathered_clause}
-use Rattle.lola_model_parts.proofs.Passing.{any_clause}
+use Rattle.lola_model.proofs.Fused.{gathered_clause}
+use Rattle.lola_model.proofs.Passing.{any_clause}
 use Rattle.lola_pacing.specs.Reading.{used_part}
 use Rattle.lola_pacing.proofs.PartLemmas.{used_each}
 use Rattle.lola_pacing.proofs.uses.uses_of.Goals as goal

@@ -1,6 +1,6 @@
 use Rattle.std.proofs.Common.{codes}
 use Rattle.lola_value.proofs.AppendingLemmas.{in_first}
-use Rattle.lola_report_lines.proofs.Sequences.{on_err}
+use Rattle.lola_report.proofs.Sequences.{on_err}
 use Rattle.lola_replay.specs.ReplayEnds.{counted_text}
 use Rattle.lola_replay.proofs.Parts.{both_appended, first_alone}
 use Rattle.lola_replay.proofs.end.append_counted_line.Goals as goal

@@ -1,6 +1,6 @@
 use Rattle.std.proofs.Common.{codes}
 use Rattle.lola_value.proofs.AppendingLemmas.{in_first}
-use Rattle.lola_report_lines.proofs.Sequences.{on_err}
+use Rattle.lola_report.proofs.Sequences.{on_err}
 use Rattle.lola_replay.specs.ReplayEnds.{counted_line, counted_text}
 use Rattle.lola_replay.proofs.Parts.{both_appended, second_in_part}
 use Rattle.lola_replay.proofs.end.append_same.Goals as goal

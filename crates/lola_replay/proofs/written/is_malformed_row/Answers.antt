@@ -1,7 +1,7 @@
 use Rattle.std.proofs.Common.{◌≡◌, arith, below_more, subst}
 use Rattle.std.specs.Bool.{MatchBool}
 use Rattle.lola_model.specs.declared.source.MalformedKind.{MalformedKind}
-use Rattle.lola_report_lines.specs.Ends.{malformed_text}
+use Rattle.lola_report.specs.Ends.{malformed_text}
 use Rattle.lola_replay.specs.EndLines.{kind_at}
 use Rattle.lola_replay.proofs.WrittenLemmas.{all-kinds}
 use Rattle.lola_replay.proofs.written.is_malformed_row.Goals as goal

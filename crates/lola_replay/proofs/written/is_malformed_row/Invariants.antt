@@ -1,6 +1,6 @@
 -- None of the kinds so far.
 use Rattle.std.proofs.Common.{◌≡◌, ◌<◌, ℕ}
-use Rattle.lola_report_lines.specs.Ends.{malformed_text}
+use Rattle.lola_report.specs.Ends.{malformed_text}
 use Rattle.lola_replay.specs.EndLines.{kind_at}
 use Rattle.lola_replay.proofs.written.is_malformed_row.Given as goal
 

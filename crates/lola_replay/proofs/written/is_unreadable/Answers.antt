@@ -1,6 +1,6 @@
 use Rattle.std.proofs.Common.{◌≡◌, arith, below_more, subst}
 use Rattle.std.specs.Bool.{MatchBool}
-use Rattle.lola_report_lines.specs.Ends.{unreadable_text}
+use Rattle.lola_report.specs.Ends.{unreadable_text}
 use Rattle.lola_replay.proofs.written.is_unreadable.Goals as goal
 
 pub loop-source-preserved : goal.loop-source-preserved

@@ -1,4 +1,4 @@
-use Rattle.lola_replay_step.proofs.Settling.{progress}
+use Rattle.lola_replay_step.proofs.Underway.{progress}
 use Rattle.lola_replay_step.proofs.law.answers_keep_agreement.Goals as goal
 
 pub returns : goal.returns

@@ -1,4 +1,4 @@
-use Rattle.lola_replay_step.proofs.Settling.{waits-below}
+use Rattle.lola_replay_step.proofs.Underway.{waits-below}
 use Rattle.lola_replay_step.proofs.law.questions_wait_for_lower.Goals as goal
 
 pub returns : goal.returns

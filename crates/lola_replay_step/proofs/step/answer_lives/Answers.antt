@@ -1,6 +1,6 @@
 use Rattle.std.proofs.Common.{◌∙◌, List, ap, arith, slice_get}
 use Rattle.lola_replay_table.specs.Moments.{the_step}
-use Rattle.lola_replay_step.specs.SettlingOf.{lives_at}
+use Rattle.lola_replay_step.specs.AnsweringOf.{lives_at}
 use Rattle.lola_replay_table.specs.declared.question.Question.TheVariants.{SpawnOf}
 use Rattle.lola_replay_table.specs.declared.table.KnownStream.{KnownStream}
 use Rattle.lola_replay_step.proofs.PassingLives.{all-lives, one-more-life}

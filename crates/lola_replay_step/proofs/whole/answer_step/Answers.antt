@@ -3,7 +3,7 @@ use Rattle.lola_replay_table.specs.Moments.{the_step}
 use Rattle.lola_replay_table.specs.Open.{IsOpen}
 use Rattle.lola_replay_table.specs.declared.table.KnownStream.{KnownStream}
 use Rattle.lola_replay_step.specs.Rests.{Judged}
-use Rattle.lola_replay_step.specs.SettlingOf.{SettlesAll}
+use Rattle.lola_replay_step.specs.AnsweringOf.{AnswersAll}
 use Rattle.lola_replay_step.proofs.StepEnds.{begun-long, judged-step, ok-any}
 use Rattle.lola_replay_step.proofs.whole.answer_step.Goals as goal
 
@@ -35,6 +35,6 @@ returns-clause-answered c = λ rows is born rests.
     let start = c.args.moment.now.start in
     let step = the_step c.args.moment.now in
     let after = c.answer_all.new.known in
-    let settles = subst (λ (ks : List KnownStream). SettlesAll plan start step ks after) c.in_ok-begin.ensures c.in_ok-answer_all.ensures in
+    let settles = subst (λ (ks : List KnownStream). AnswersAll plan start step ks after) c.in_ok-begin.ensures c.in_ok-answer_all.ensures in
     let judged = subst (λ (ks : List KnownStream). Judged plan start step ks c.judge.new.closed.items c.judge.result) c.as_slice.ensures c.judge.ensures in
     judged-step plan c.requires.accepted.acyclic start step rows born c.args.first is c.args.known.now after rests settles c.judge.new.closed.items c.judge.result judged

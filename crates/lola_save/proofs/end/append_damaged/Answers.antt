@@ -1,7 +1,7 @@
 use Rattle.std.proofs.Common.{ℕ, List, ◌++◌, ◌∙◌, ap, append_assoc, codes, decimal}
 use Rattle.std.proofs.lemmas.Result.{on_err_weaker, on_ok_weaker}
 use Rattle.lola_value.proofs.AppendingLemmas.{all_appended, in_first, in_second}
-use Rattle.lola_report_lines.proofs.Sequences.{on_err}
+use Rattle.lola_report.proofs.Sequences.{on_err}
 use Rattle.lola_save.proofs.end.append_damaged.Goals as goal
 
 pub returns-in_err-number_text-clause-memory : goal.returns-in_err-number_text-clause-memory

@@ -3,7 +3,7 @@ use Rattle.circular_buffer.specs.Buffer.{keep_last}
 use Rattle.lola_model.specs.Store.{instances_seen, start_seen}
 use Rattle.lola_instances.specs.Saved.{values_by_now}
 use Rattle.lola_instances.specs.Stores.{bounded_remembers, bounded_seen}
-use Rattle.lola_save_law.specs.PaneFolds.{panes_of}
+use Rattle.lola_save_text.specs.PaneFolds.{panes_of}
 use Rattle.lola_save.proofs.Lives.{instance-taken}
 use Rattle.lola_save.proofs.instances.instance_of.Goals as goal
 

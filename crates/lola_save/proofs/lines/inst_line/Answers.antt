@@ -1,6 +1,6 @@
 use Rattle.std.proofs.Common.{[], ◌∷◌, ◌++◌}
 use Rattle.lola_value.proofs.AppendingLemmas.{in_first, in_second}
-use Rattle.lola_report_lines.proofs.Sequences.{on_err}
+use Rattle.lola_report.proofs.Sequences.{on_err}
 use Rattle.lola_save_text.specs.Lines.{time_or_dash, values_text}
 use Rattle.lola_save.proofs.lines.inst_line.Goals as goal
 

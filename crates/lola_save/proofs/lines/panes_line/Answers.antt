@@ -1,6 +1,6 @@
 use Rattle.std.proofs.Common.{[], ◌∷◌, ◌++◌, decimal}
 use Rattle.lola_value.proofs.AppendingLemmas.{in_first, in_second}
-use Rattle.lola_report_lines.proofs.Sequences.{on_err}
+use Rattle.lola_report.proofs.Sequences.{on_err}
 use Rattle.lola_save_text.specs.Lines.{panes_text}
 use Rattle.lola_save.proofs.lines.panes_line.Goals as goal
 

@@ -1,5 +1,5 @@
 use Rattle.std.proofs.Common.{◌∙◌, sym}
-use Rattle.lola_save_law.specs.JournalStates.{state_of}
+use Rattle.lola_save_text.specs.JournalStates.{state_of}
 use Rattle.lola_save.proofs.load.load.Goals as goal
 
 pub returns : goal.returns

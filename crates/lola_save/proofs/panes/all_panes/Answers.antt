@@ -3,7 +3,7 @@ use Rattle.std.proofs.lemmas.Option.{slice_get-get_or}
 use Rattle.lola_model.specs.Store.{start_seen}
 use Rattle.lola_instances.specs.Saved.{values_by_now}
 use Rattle.lola_instances.specs.Stores.{bounded_seen}
-use Rattle.lola_save_law.specs.PaneFolds.{panes_of}
+use Rattle.lola_save_text.specs.PaneFolds.{panes_of}
 use Rattle.lola_save.proofs.FormsFit.{window-at}
 use Rattle.lola_save.proofs.Items.{map-all, map-more}
 use Rattle.lola_save.proofs.panes.all_panes.Goals as goal

@@ -5,7 +5,7 @@ use Rattle.lola_value.specs.declared.text.Field.{Field}
 use Rattle.lola_model.specs.Store.{start_seen}
 use Rattle.lola_instances.specs.Saved.{values_by_now}
 use Rattle.lola_instances.specs.Stores.{bounded_remembers, bounded_seen}
-use Rattle.lola_save_law.specs.PaneFolds.{panes_of}
+use Rattle.lola_save_text.specs.PaneFolds.{panes_of}
 use Rattle.lola_save.proofs.panes.all_panes.Given as goal
 
 abbrev pub invariant-loop-window : goal.invariant-loop-window

@@ -4,7 +4,7 @@ use Rattle.lola_model.specs.Store.{instances_seen, start_seen, target_of}
 use Rattle.lola_instances.specs.Saved.{panes_at, values_by_now}
 use Rattle.lola_instances.specs.Stores.{bounded_remembers, bounded_seen}
 use Rattle.lola_panes.specs.Standing.{StandFor}
-use Rattle.lola_save_law.specs.Offsets.{by_offset}
+use Rattle.lola_save_text.specs.Offsets.{by_offset}
 use Rattle.lola_save.proofs.WindowPanes.{window-have, window-none, window-some}
 use Rattle.lola_save.proofs.panes.window_panes.Goals as goal
 

@@ -1,8 +1,8 @@
 use Rattle.std.proofs.Common.{◌≡◌, ◌++◌, ℕ, ◌+◌, ◌<◌, length, get_or, List, refl, sym, ap, ◌∙◌, arith}
 use Rattle.std.proofs.lemmas.Result.{on_ok_weaker, on_err_weaker}
 use Rattle.lola_model.specs.Texts.{escaped}
-use Rattle.lola_report_lines.proofs.Sequences.{on_err, part_at, one_more}
-use Rattle.lola_report_lines.proofs.Runs.{run_appended, run_more, run_none, run_to_end}
+use Rattle.lola_report.proofs.Sequences.{on_err, part_at, one_more}
+use Rattle.lola_report.proofs.Runs.{run_appended, run_more, run_none, run_to_end}
 use Rattle.lola_save.proofs.spelling.spell.Goals.{in-Some+in_ok-append+in_ok-append-2, in_default}
 use Rattle.lola_save.proofs.spelling.spell.Goals as goal
 

@@ -1,6 +1,6 @@
 use Rattle.std.proofs.Common.{◌∷◌, refl, arith}
 use Rattle.lola_save_text.specs.Lines.{partial_text}
-use Rattle.lola_report_lines.proofs.Sequences.{on_err, part_within}
+use Rattle.lola_report.proofs.Sequences.{on_err, part_within}
 use Rattle.lola_save.proofs.words.partials_text.Goals as goal
 
 pub returns-in_err-one_more_partial-clause-memory : goal.returns-in_err-one_more_partial-clause-memory

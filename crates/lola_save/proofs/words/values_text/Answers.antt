@@ -1,6 +1,6 @@
 use Rattle.std.proofs.Common.{◌∷◌, arith}
 use Rattle.lola_model.specs.Texts.{value_text}
-use Rattle.lola_report_lines.proofs.Sequences.{on_err, part_within}
+use Rattle.lola_report.proofs.Sequences.{on_err, part_within}
 use Rattle.lola_save.proofs.words.values_text.Goals as goal
 
 pub returns-in_err-one_more_value-clause-memory : goal.returns-in_err-one_more_value-clause-memory

@@ -1,7 +1,7 @@
 use Rattle.std.proofs.Common.{◌∷◌, ◌++◌, ◌∙◌, [], decimal, length}
 use Rattle.std.proofs.lemmas.Result.{on_err_weaker}
 use Rattle.lola_value.proofs.AppendingLemmas.{all_appended, in_first, in_second}
-use Rattle.lola_report_lines.proofs.Sequences.{on_err}
+use Rattle.lola_report.proofs.Sequences.{on_err}
 use Rattle.lola_save.proofs.write.head_text.Goals as goal
 
 pub returns-in_err-number_text-clause-memory : goal.returns-in_err-number_text-clause-memory

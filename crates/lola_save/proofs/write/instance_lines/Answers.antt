@@ -1,6 +1,6 @@
 use Rattle.std.proofs.Common.{◌∷◌}
 use Rattle.lola_value.proofs.AppendingLemmas.{in_first, in_second}
-use Rattle.lola_report_lines.proofs.Sequences.{on_err}
+use Rattle.lola_report.proofs.Sequences.{on_err}
 use Rattle.lola_save_text.specs.Lines.{InstLine, RingLine, line_text, lines_text, panes_lines}
 use Rattle.lola_save.proofs.write.instance_lines.Goals as goal
 

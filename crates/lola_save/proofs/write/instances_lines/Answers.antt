@@ -1,4 +1,4 @@
-use Rattle.lola_report_lines.proofs.Sequences.{on_err}
+use Rattle.lola_report.proofs.Sequences.{on_err}
 use Rattle.lola_save.proofs.LineRows.{instances-done, instances-more, instances-part}
 use Rattle.lola_save.proofs.write.instances_lines.Goals as goal
 

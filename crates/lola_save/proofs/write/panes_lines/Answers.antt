@@ -1,5 +1,5 @@
 use Rattle.std.proofs.Common.{refl}
-use Rattle.lola_report_lines.proofs.Sequences.{on_err}
+use Rattle.lola_report.proofs.Sequences.{on_err}
 use Rattle.lola_save.proofs.LineRows.{panes-done, panes-more, panes-out, panes-part}
 use Rattle.lola_save.proofs.write.panes_lines.Goals as goal
 

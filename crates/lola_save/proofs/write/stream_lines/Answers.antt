@@ -1,6 +1,6 @@
 use Rattle.std.proofs.Common.{flat_map}
 use Rattle.lola_value.proofs.AppendingLemmas.{in_first}
-use Rattle.lola_report_lines.proofs.Sequences.{on_err}
+use Rattle.lola_report.proofs.Sequences.{on_err}
 use Rattle.lola_save_text.specs.Lines.{StreamLine, count_of, instance_lines, line_text, lines_text}
 use Rattle.lola_save.proofs.write.stream_lines.Goals as goal
 

@@ -1,4 +1,4 @@
-use Rattle.lola_report_lines.proofs.Sequences.{on_err}
+use Rattle.lola_report.proofs.Sequences.{on_err}
 use Rattle.lola_save.proofs.LineRows.{streams-done, streams-more, streams-out, streams-part}
 use Rattle.lola_save.proofs.write.streams_lines.Goals as goal
 

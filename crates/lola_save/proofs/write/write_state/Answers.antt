@@ -1,5 +1,5 @@
 use Rattle.std.proofs.lemmas.Result.{on_ok_weaker, on_err_weaker}
-use Rattle.lola_report_lines.proofs.Sequences.{on_err}
+use Rattle.lola_report.proofs.Sequences.{on_err}
 use Rattle.lola_save.proofs.WholeText.{all-written, end-cut, head-cut, streams-cut, times-cut}
 use Rattle.lola_save.proofs.write.write_state.Goals as goal
 

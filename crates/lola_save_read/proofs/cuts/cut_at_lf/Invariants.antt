@@ -1,5 +1,5 @@
 use Rattle.std.proofs.Common.{◌≡◌, take, true}
-use Rattle.lola_report_lines.specs.Lines.{has_no_lf}
+use Rattle.lola_report.specs.Lines.{has_no_lf}
 use Rattle.lola_save_read.proofs.cuts.cut_at_lf.Given as goal
 
 abbrev pub invariant-loop-place : goal.invariant-loop-place

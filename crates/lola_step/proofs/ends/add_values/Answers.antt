@@ -1,6 +1,6 @@
 use Rattle.std.proofs.Common.{◌∙◌, ◌++◌, [], ap, arith, slice_index_or}
 use Rattle.std.proofs.lemmas.Option.{slice_get-get_or}
-use Rattle.lola_step.specs.Found.{add_verdict}
+use Rattle.lola_step.specs.Found.{add_step_value}
 use Rattle.lola_step.specs.Tasks.{params_given}
 use Rattle.lola_step.proofs.OneByOne.{first_task}
 use Rattle.lola_step.proofs.Valued.{asked_lives, values_end, values_step}
@@ -15,9 +15,9 @@ pub loop-i-preserved : goal.loop-i-preserved
 loop-i-preserved g c =
     let s = g.S.StreamStore.seen c.args.store.now in
     record {
-      items = values_step s c.args.stream c.args.tasks.now c.args.results.now c.loop-i.i c.loop-i.verdicts.items _ c.loop-i.invariant.items _ c.index-results-i.result c.add_value.new.verdicts.items
+      items = values_step s c.args.stream c.args.tasks.now c.args.results.now c.loop-i.i c.loop-i.step_values.items _ c.loop-i.invariant.items _ c.index-results-i.result c.add_value.new.step_values.items
           c.loop-i-test.true (omega arith)
-          (c.add_value.ensures.items ∙ ap (λ o. c.loop-i.verdicts.items ++ add_verdict c.args.stream (params_given s c.args.stream (slice_index_or c.args.tasks.now c.loop-i.i first_task).index) o []) c.index-results-i.is);
+          (c.add_value.ensures.items ∙ ap (λ o. c.loop-i.step_values.items ++ add_step_value c.args.stream (params_given s c.args.stream (slice_index_or c.args.tasks.now c.loop-i.i first_task).index) o []) c.index-results-i.is);
       fit = λ f. c.add_value.ensures.fit (c.loop-i.invariant.fit f);
       count = omega (arith, c.add_value.ensures.count, c.loop-i.invariant.count);
       capacity = c.add_value.ensures.capacity ∙ c.loop-i.invariant.capacity;
@@ -25,4 +25,4 @@ loop-i-preserved g c =
 
 pub returns-clause-items : goal.returns-clause-items
 returns-clause-items g c =
-    values_end (g.S.StreamStore.seen c.args.store.now) c.args.stream c.args.tasks.now c.args.results.now c.loop-i.i c.loop-i.verdicts.items _ c.loop-i.invariant.items (omega arith)
+    values_end (g.S.StreamStore.seen c.args.store.now) c.args.stream c.args.tasks.now c.args.results.now c.loop-i.i c.loop-i.step_values.items _ c.loop-i.invariant.items (omega arith)

@@ -12,17 +12,17 @@ use Rattle.lola_step.proofs.Layouts.{parameters_there}
 use Rattle.lola_step.proofs.Single.{spawns_here, without}
 use Rattle.lola_step.proofs.Standing.{room_there}
 use Rattle.lola_step.proofs.Duties.{IsDuty, walk_on}
-use Rattle.lola_step.proofs.Valued.{collects_end, verdicts_end}
+use Rattle.lola_step.proofs.Valued.{collects_end, step_values_end}
 use Rattle.lola_step.proofs.ends.collect.Goals as goal
 use Rattle.lola_step.proofs.ends.collect.Goals.{In-loop-number}
 
 -- the next of the streams, and what holds of those before it
 next : (g : _) (c : In-loop-number g)
     → IsDuty (has_duty c.args.plan.now (duty.Shown c.args._show)) c.args.plan.now.spec.streams
-    (AreCollected c.args.plan.now c.args._show (g.S.StreamStore.seen c.args.store.now) c.args.tasks.now c.args.results.now c.args.spans.now c.loop-number.verdicts)
+    (AreCollected c.args.plan.now c.args._show (g.S.StreamStore.seen c.args.store.now) c.args.tasks.now c.args.results.now c.args.spans.now c.loop-number.step_values)
     (get_or c.args.duties.now c.loop-number.number-index 0) (drop (c.loop-number.number-index + 1) c.args.duties.now)
 next g c =
-    collected_duty c.args.plan.now c.args._show (g.S.StreamStore.seen c.args.store.now) c.args.tasks.now c.args.results.now c.args.spans.now c.requires.spans c.loop-number.verdicts c.args.duties.now
+    collected_duty c.args.plan.now c.args._show (g.S.StreamStore.seen c.args.store.now) c.args.tasks.now c.args.results.now c.args.spans.now c.requires.spans c.loop-number.step_values c.args.duties.now
     c.loop-number.number-index c.loop-number.invariant.walk c.loop-number-test.true
 
 -- its span
@@ -82,7 +82,7 @@ loop-number-preserved g c =
     let x = c.stream_at-stream.result.now in
     record {
       walk = walk_on (has_duty plan (duty.Shown show)) plan.spec.streams _ _ n (drop (c.loop-number.number-index + 1) c.args.duties.now) t
-          (collected_next plan show s c.args.tasks.now c.args.results.now c.args.spans.now c.requires.spans c.loop-number.verdicts c.add_asked.new.verdicts n x _ c.stream_at-stream.ensures
+          (collected_next plan show s c.args.tasks.now c.args.results.now c.args.spans.now c.requires.spans c.loop-number.step_values c.add_asked.new.step_values n x _ c.stream_at-stream.ensures
           (has_duty_there plan (duty.Shown show) n t.at x t.is c.stream_at-stream.ensures t.passes) refl c.add_asked.ensures.items
           (omega (arith, c.add_asked.ensures.count, (here g at).few, room_there s n, t.holds.count)) t.holds);
       bare = c.add_asked.ensures.bare;
@@ -90,18 +90,18 @@ loop-number-preserved g c =
       capacity = c.add_asked.ensures.capacity ∙ c.loop-number.invariant.capacity;
     }
 
-pub returns-clause-verdicts : goal.returns-clause-verdicts
-returns-clause-verdicts g c =
+pub returns-clause-step_values : goal.returns-clause-step_values
+returns-clause-step_values g c =
     let plan = c.args.plan.now in
     let s = g.S.StreamStore.seen c.args.store.now in
-    let all = collected_end plan c.args._show s c.args.tasks.now c.args.results.now c.args.spans.now c.requires.spans c.loop-number.verdicts c.args.duties.now c.loop-number.number-index c.loop-number.invariant.walk (omega arith) in
-    verdicts_end plan c.args._show c.args.spans.now c.args.tasks.now c.args.results.now s (length plan.spec.streams) c.loop-number.verdicts.items all.items (omega arith)
+    let all = collected_end plan c.args._show s c.args.tasks.now c.args.results.now c.args.spans.now c.requires.spans c.loop-number.step_values c.args.duties.now c.loop-number.number-index c.loop-number.invariant.walk (omega arith) in
+    step_values_end plan c.args._show c.args.spans.now c.args.tasks.now c.args.results.now s (length plan.spec.streams) c.loop-number.step_values.items all.items (omega arith)
     c.requires.of.layout c.requires.within c.loop-number.invariant.fit
 
 pub returns-clause-values : goal.returns-clause-values
 returns-clause-values g c =
     let plan = c.args.plan.now in
     let s = g.S.StreamStore.seen c.args.store.now in
-    let all = collected_end plan c.args._show s c.args.tasks.now c.args.results.now c.args.spans.now c.requires.spans c.loop-number.verdicts c.args.duties.now c.loop-number.number-index c.loop-number.invariant.walk (omega arith) in
-    collects_end plan c.args._show c.args.spans.now c.args.tasks.now c.args.results.now s (length plan.spec.streams) c.loop-number.verdicts.items all.items (omega arith)
+    let all = collected_end plan c.args._show s c.args.tasks.now c.args.results.now c.args.spans.now c.requires.spans c.loop-number.step_values c.args.duties.now c.loop-number.number-index c.loop-number.invariant.walk (omega arith) in
+    collects_end plan c.args._show c.args.spans.now c.args.tasks.now c.args.results.now s (length plan.spec.streams) c.loop-number.step_values.items all.items (omega arith)
     (g.S.StreamStore.remembers c.args.store.now) c.requires.accepted c.requires.of.layout c.requires.spans

@@ -13,8 +13,8 @@ abbrev pub invariant-loop-number : goal.invariant-loop-number
 invariant-loop-number g l =
     let s = g.S.StreamStore.seen l.store in
     record {
-      walk : IsWalk (has_duty l.plan (duty.Shown l.fn._show)) l.plan.spec.streams (AreCollected l.plan l.fn._show s l.tasks l.results l.spans l.verdicts) (drop l.number-index l.duties);
+      walk : IsWalk (has_duty l.plan (duty.Shown l.fn._show)) l.plan.spec.streams (AreCollected l.plan l.fn._show s l.tasks l.results l.spans l.step_values) (drop l.number-index l.duties);
       bare : l.bare.params ≡ no_params;
-      fit : FitLayout s.layout l.verdicts.items;
-      capacity : vec_capacity l.verdicts ≡ vec_capacity l.initial.verdicts;
+      fit : FitLayout s.layout l.step_values.items;
+      capacity : vec_capacity l.step_values ≡ vec_capacity l.initial.step_values;
     }

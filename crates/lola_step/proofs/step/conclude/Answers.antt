@@ -1,7 +1,7 @@
 use Rattle.std.proofs.Common.{◌∙◌, Some, None, ap, subst, sym}
 use Rattle.lola_step.specs.Ends.{FindsClosings, FindsFault}
 use Rattle.lola_step.specs.Found.{NoneFailed, has_fault}
-use Rattle.lola_step.proofs.Endings.{fails_by_closing, fails_by_evaluation, is_done, same_fault, same_spans, same_verdicts, same_within}
+use Rattle.lola_step.proofs.Endings.{fails_by_closing, fails_by_evaluation, is_done, same_fault, same_spans, same_step_values, same_within}
 use Rattle.lola_step.proofs.step.conclude.Goals as goal
 
 pub fault_of_step-requires-clause-within : goal.fault_of_step-requires-clause-within
@@ -55,9 +55,9 @@ returns-clause-concludes g c names rows step run moment noted stands =
     (same_fault c.args.plan.now now.spawn_results.items c.deref.result.now now.spans.items c.deref-2.result.now now.tasks.items now.results.items c.deref-3.result.now None
     c.deref.ensures.value c.deref-2.ensures.value c.deref-3.ensures.value none)
     c.args.show (g.S.StreamStore.remembers c.close_all.new.store) (g.S.StreamStore.seen c.close_all.new.store)
-    c.find_closings.new.closing.items c.deref-7.result.now c.collect.new.verdicts.items finds c.deref-7.ensures.value
-    (same_verdicts c.args.plan.now c.args.show now.spans.items c.deref-4.result.now now.tasks.items c.deref-5.result.now now.results.items c.deref-6.result.now
-    (g.S.StreamStore.remembers c.args.store.now) (g.S.StreamStore.seen c.args.store.now) c.collect.new.verdicts.items
+    c.find_closings.new.closing.items c.deref-7.result.now c.collect.new.step_values.items finds c.deref-7.ensures.value
+    (same_step_values c.args.plan.now c.args.show now.spans.items c.deref-4.result.now now.tasks.items c.deref-5.result.now now.results.items c.deref-6.result.now
+    (g.S.StreamStore.remembers c.args.store.now) (g.S.StreamStore.seen c.args.store.now) c.collect.new.step_values.items
     c.deref-4.ensures.value c.deref-5.ensures.value c.deref-6.ensures.value c.collect.ensures.values)
     c.close_all.ensures.stands names rows step run moment noted stands
 

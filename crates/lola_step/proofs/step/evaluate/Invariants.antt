@@ -19,7 +19,7 @@ invariant-loop-layer g l = record {
   schedule : l.scratch.schedule ≡ l.initial.scratch.schedule;
   code : l.scratch.code ≡ l.initial.scratch.code;
   closing : l.scratch.closing ≡ l.initial.scratch.closing;
-  verdicts : l.scratch.verdicts ≡ l.initial.scratch.verdicts;
+  step_values : l.scratch.step_values ≡ l.initial.scratch.step_values;
   places_room : vec_capacity l.scratch.places ≡ vec_capacity l.initial.scratch.places;
   tasks_room : vec_capacity l.scratch.tasks ≡ vec_capacity l.initial.scratch.tasks;
   results_room : vec_capacity l.scratch.results ≡ vec_capacity l.initial.scratch.results;

@@ -76,16 +76,16 @@ conclude-requires-clause-closing_room g c =
     let kept : vec_capacity c.evaluate.new.scratch.closing ≡ vec_capacity c.make_all_room.new.scratch.closing = ap vec_capacity c.evaluate.ensures.kept.0 in
     omega (arith, all, kept, c.in_default.ensures.fresh.closing_room)
 
-pub conclude-requires-clause-verdicts_room : goal.conclude-requires-clause-verdicts_room
-conclude-requires-clause-verdicts_room g c =
+pub conclude-requires-clause-step_values_room : goal.conclude-requires-clause-step_values_room
+conclude-requires-clause-step_values_room g c =
     let s = g.S.StreamStore.seen c.args.store.now in
     let e : g.S.StreamStore.seen c.begin.new.store ≡ after_begin (after_prepare s) c.args.time =
     c.begin.ensures.seen ∙ ap (λ t. after_begin t c.args.time) c.in_default.ensures.ok in
     let told : total (rooms (g.S.StreamStore.seen c.tell_inputs.new.store)) ≡ instances_to_come s =
     ap total c.tell_inputs.ensures.goes_on.rooms ∙ (ap (λ t. total (rooms t)) e ∙ first_room s c.args.time) in
     let all : total (rooms (g.S.StreamStore.seen c.evaluate.new.store)) ≡ instances_to_come s = ap total c.evaluate.ensures.goes_on.rooms ∙ told in
-    let kept : vec_capacity c.evaluate.new.scratch.verdicts ≡ vec_capacity c.make_all_room.new.scratch.verdicts = ap vec_capacity c.evaluate.ensures.kept.1 in
-    omega (arith, all, kept, c.in_default.ensures.fresh.verdicts_room)
+    let kept : vec_capacity c.evaluate.new.scratch.step_values ≡ vec_capacity c.make_all_room.new.scratch.step_values = ap vec_capacity c.evaluate.ensures.kept.1 in
+    omega (arith, all, kept, c.in_default.ensures.fresh.step_values_room)
 
 pub returns-clause-never : goal.returns-clause-never
 returns-clause-never g c bounded plain is =
@@ -104,6 +104,6 @@ returns-clause-ends g c =
     (remembers c.args.store.now) (seen c.args.store.now) (remembers c.make_all_room.new.store) (seen c.make_all_room.new.store)
     (remembers c.begin.new.store) (seen c.begin.new.store) (remembers c.tell_inputs.new.store) (seen c.tell_inputs.new.store)
     (remembers c.evaluate.new.store) (seen c.evaluate.new.store) (remembers c.conclude.new.store) (seen c.conclude.new.store)
-    c.evaluate.new.scratch c.conclude.result c.conclude.new.scratch.verdicts.items
+    c.evaluate.new.scratch c.conclude.result c.conclude.new.scratch.step_values.items
     c.make_all_room.ensures.stands c.begin.ensures.stands (ap start_seen e ∙ sym c.requires.start) (ap (λ (t : Seen). t.layout) e ∙ c.requires.of.layout)
     c.tell_inputs.ensures.takes c.evaluate.ensures.evaluates c.conclude.ensures.concludes

@@ -1,7 +1,7 @@
 -- Where its clause is active, a task has the outcome of the clause.
 use Rattle.std.proofs.Common.{◌≡◌, ◌<◌, ap, subst, refl, slice_get, length, get_or, List, Option, sym, ◌∙◌}
 use Rattle.std.proofs.lemmas.Option.{slice_get_read, slice_get_within}
-use Rattle.lola_expr_code.specs.Plans.{IsCodeIn, IsEvalCode}
+use Rattle.lola_expr.specs.Plans.{IsCodeIn, IsEvalCode}
 use Rattle.lola_model.specs.declared.spec.Clause.{Clause}
 use Rattle.lola_model.specs.declared.spec.Spec.{Spec}
 use Rattle.lola_model.specs.declared.spec.Stream.{Stream}

@@ -1,7 +1,7 @@
 use Rattle.std.proofs.Common.{ℕ, List}
 use Rattle.lola_lexer.specs.declared.shape.TokenShape.TheVariants as is
 use Rattle.lola_parser_grammar.specs.Syntax.{Of}
-use Rattle.lola_parser_tree.specs.declared.literals.Quantity.{Quantity}
+use Rattle.lola_parser_grammar.specs.declared.literals.Quantity.{Quantity}
 use Rattle.lola_parser_grammar.specs.Literals.{number_of, digits_in, decimals_in, unit_of}
 use Rattle.lola_parser_grammar.specs.Grammar.{token, quantity}
 use Rattle.lola_parser_cursor.proofs.Values.{value_taken, missed_as}

@@ -1,5 +1,0 @@
-pub mod Code
-pub mod Machine
-pub mod Plans
-pub mod Numbered
-pub mod Keys

@@ -1,5 +1,0 @@
-use Rattle.lola_model_law.proofs.BothWays.{same_outcomes}
-use Rattle.lola_model_law.proofs.alike.outcomes_are_same.Goals as goal
-
-pub returns : goal.returns
-returns c s t specs = same_outcomes s t specs

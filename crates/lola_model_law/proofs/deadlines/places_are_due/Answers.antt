@@ -1,5 +1,0 @@
-use Rattle.lola_model_law.proofs.PlacesListed.{places_listed}
-use Rattle.lola_model_law.proofs.deadlines.places_are_due.Goals as goal
-
-pub returns : goal.returns
-returns c = places_listed

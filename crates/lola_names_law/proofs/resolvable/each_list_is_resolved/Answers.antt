@@ -1,6 +1,0 @@
--- The law.
-use Rattle.lola_names_law.proofs.Made.{resolves_each}
-use Rattle.lola_names_law.proofs.resolvable.each_list_is_resolved.Goals as goal
-
-pub returns : goal.returns
-returns c = resolves_each

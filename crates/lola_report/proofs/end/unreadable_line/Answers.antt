@@ -1,0 +1,5 @@
+use Rattle.std.proofs.Common.{append_assoc}
+use Rattle.lola_report.proofs.end.unreadable_line.Goals as goal
+
+pub returns-clause-ok : goal.returns-clause-ok
+returns-clause-ok c = simp append_assoc (simp (c.from.ensures) at c.append_all.ensures.ok)

@@ -1,5 +1,0 @@
-use Rattle.lola_report_lines.proofs.LineForms.{end_line}
-use Rattle.lola_report_lines.proofs.law.end_is_line.Goals as goal
-
-pub returns : goal.returns
-returns c = end_line c.args._line.now c.requires

@@ -1,5 +1,0 @@
-use Rattle.lola_report_lines.proofs.LineForms.{entry_line}
-use Rattle.lola_report_lines.proofs.law.entry_is_line.Goals as goal
-
-pub returns : goal.returns
-returns c = entry_line c.args._entry.now c.requires

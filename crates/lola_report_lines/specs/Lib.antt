@@ -1,6 +1,0 @@
-pub mod Names
-pub mod Rows
-pub mod Pieces
-pub mod Verdicts
-pub mod Ends
-pub mod Lines

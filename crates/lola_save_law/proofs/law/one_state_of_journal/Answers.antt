@@ -1,5 +1,0 @@
-use Rattle.lola_save_law.proofs.Saved.{one-state}
-use Rattle.lola_save_law.proofs.law.one_state_of_journal.Goals as goal
-
-pub returns : goal.returns
-returns c = one-state c.args._plan.now c.requires

@@ -1,5 +1,0 @@
-use Rattle.lola_save_law.proofs.SamePanes.{kept-partials-same}
-use Rattle.lola_save_law.proofs.panes.kept_partials_are_same.Goals as goal
-
-pub returns : goal.returns
-returns c = kept-partials-same

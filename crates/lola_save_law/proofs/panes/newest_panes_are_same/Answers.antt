@@ -1,5 +1,0 @@
-use Rattle.lola_save_law.proofs.SamePanes.{newest-same}
-use Rattle.lola_save_law.proofs.panes.newest_panes_are_same.Goals as goal
-
-pub returns : goal.returns
-returns c = newest-same

@@ -1,5 +1,0 @@
-use Rattle.lola_save_law.proofs.SamePanes.{panes-restored}
-use Rattle.lola_save_law.proofs.panes.panes_are_restored.Goals as goal
-
-pub returns : goal.returns
-returns c = panes-restored

@@ -1,5 +1,0 @@
-use Rattle.lola_save_law.proofs.SamePanes.{partial-same}
-use Rattle.lola_save_law.proofs.panes.partials_are_same.Goals as goal
-
-pub returns : goal.returns
-returns c = partial-same

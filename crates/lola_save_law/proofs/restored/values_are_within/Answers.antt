@@ -1,5 +1,0 @@
-use Rattle.lola_save_law.proofs.Values.{values-within}
-use Rattle.lola_save_law.proofs.restored.values_are_within.Goals as goal
-
-pub returns : goal.returns
-returns c times kind values h = values-within times kind values h
