@@ -195,6 +195,18 @@ ROWS: List[Row] = [
     Row("snapshot over -", "time,a\n0,1\n1,0\n", OVER_STATE),
     Row("run --resume over.state over -", "time,a\n", "= fault b 2 DivZero at 1.000000000\n", status=5),
     Row("run --resume over.state over -", "time,a\n1,5\n", "= done accepted 1 late 0 steps 2 lines 0\n", "0,1,1.000000000,A,5\n"),
+    # a state that no run comes to has causes too
+    Row("run --resume odd first -", "time,a\n1,2\n", '1.000000000 trigger_1 "high"\n= done accepted 1 late 0 steps 1 lines 1\n', "0,1,1.000000000,A,2\n"),
+    Row("run --resume odd first -", "time,a\n1,2\n2,x\n", '1.000000000 trigger_1 "high"\n= malformed source 0 row 2 kind 4 BadValue\n',
+        "0,1,1.000000000,A,2\n", 4),
+    Row("run --resume odd first -", "", "= malformed source 0 row 0 kind 1 BadHeading\n", status=4),
+    Row("run --resume odd first .", "", "= unreadable source 0\n", status=6),
+    Row("run --resume odd first - nowhere", "time,a\n1,2\n", "= unreadable source 1\n", status=6),
+    Row("run --resume odd first nowhere .", "", "= unreadable source 0\n", status=6),
+    Row("snapshot --resume odd first -", "time,a\n", FIRST_STATE.replace("ring 2", "ring 7")),
+    Row("snapshot --resume odd first -", "time,a\n1,2\n2,x\n", "= malformed source 0 row 2 kind 4 BadValue\n", status=4),
+    Row("snapshot --resume odd first .", "", "= unreadable source 0\n", status=6),
+    Row("snapshot --resume odd first - nowhere", "time,a\n1,2\n", "= unreadable source 1\n", status=6),
     # what is no command
     *(Row(words, "", "= usage\n", status=2) for words in (
         "run --resume first.state --start 0 first -", "run --start=0 first - --resume=first.state", "run first - --resume",
@@ -214,6 +226,7 @@ def lay_out() -> None:
             ("first.state", FIRST_STATE), ("count.state", COUNT_STATE), ("empty.state", EMPTY_STATE.format("-")), ("devices.state", DEVICES_STATE),
             ("started.state", EMPTY_STATE.format("7.500000000")), ("nothing", ""), ("twice", FIRST_STATE * 2),
             ("ring_x", "".join([*lines[:11], "ring x\n", *lines[12:]])), ("cut", "".join(lines[:18])),
+            ("odd", FIRST_STATE.replace("ring 2", "ring 7")),
             ("many", FIRST_STATE.replace("steps 1", "steps 4611686018427387904")), ("more", FIRST_STATE.replace("steps 1", "steps 4611686018427387905"))):
         write(name, text)
 
@@ -250,7 +263,7 @@ def test_the_checker_itself(checks: Checks) -> None:
     cases: List[Tuple[str, str, str]] = [
         ("first", "first.state", ""), ("count", "count.state", ""), ("count", "empty.state", ""), ("count", "started.state", ""),
         ("devices", "devices.state", ""), ("first", "ring_x", "= damaged state line 12\n"), ("first", "cut", "= damaged state line 19\n"),
-        ("first", "many", ""), ("first", "more", "= damaged state line 9\n"), ("first", "count.state", "= state of another specification\n"),
+        ("first", "many", ""), ("first", "odd", ""), ("first", "more", "= damaged state line 9\n"), ("first", "count.state", "= state of another specification\n"),
         ("first", "nothing", "= damaged state line 1\n"), ("first", "twice", "= damaged state line 20\n")]
     for specification, state, expected in cases:
         with open(state, "rb") as file:
@@ -264,7 +277,9 @@ def test_failed_writes(checks: Checks) -> None:
             ("snapshot first -", "time,a\n0,1\n", 7), ("snapshot first -", "time,a\n0,x\n", 7), ("snapshot --resume ring_x first -", "time,a\n", 9),
             ("snapshot --resume many first -", "time,a\n1,2\n", 9), ("run --resume cut first -", "time,a\n", 9), ("snapshot first", "", 2),
             ("snapshot --resume nowhere first -", "time,a\n", 6), ("snapshot bad -", "time,a\n", 3),
-            ("snapshot first -", "time,a\n0,9223372036854775807\n", 5), ("run --resume first.state first -", "time,a\n", 7)):
+            ("snapshot first -", "time,a\n0,9223372036854775807\n", 5), ("run --resume first.state first -", "time,a\n", 7),
+            ("run --resume odd first -", "time,a\n", 7), ("run --resume odd first -", "time,a\n1,x\n", 7),
+            ("run --resume odd first - nowhere", "time,a\n1,2\n", 6), ("snapshot --resume odd first -", "time,a\n1,x\n", 7)):
         with open("/dev/full", "wb") as full:
             came = subprocess.run([PROGRAM, *with_input(words)], input=source.encode(), stdout=full, stderr=subprocess.PIPE)
         checks.same(f"{words} {source!r} to a full device", (status, b""), (came.returncode, came.stderr))
