@@ -24,8 +24,8 @@ use Rattle.lola_model.proofs.Orderly.{of_no_rows}
 use Rattle.lola_step_contents.specs.Ready.{HasTexts}
 use Rattle.lola_step_contents.proofs.Settled.{settled_at_none}
 use Rattle.lola_step.specs.Progress.{IsRun}
-use Rattle.lola_engine.specs.Engines.{AreStarted, Brings, Completes, CutsOut, CutsRow, FailsOut, IsEngine, IsUnderWay, IsWaiting, accepted_entry}
-use Rattle.lola_engine.specs.Going.{Add, CutsOn, FailsOn, Goes, GoesBy, HasKept, HasRun, IsOpenBehind, RunsOn, Tally, lines_after, tally_of}
+use Rattle.lola_engine.specs.Engines.{AreStarted, Brings, Completes, CutsOut, CutsRow, FaultAtEnd, IsEngine, IsUnderWay, IsWaiting, accepted_entry}
+use Rattle.lola_engine.specs.Going.{Add, CutsOn, FaultInSteps, Goes, GoesBy, HasKept, HasRun, IsOpenBehind, RunsOn, Tally, lines_after, tally_of}
 use Rattle.lola_engine.specs.Rules.{Come, TellsDue, deadlines_below, due_told}
 use Rattle.lola_engine.specs.declared.engine.EngineState.{EngineState}
 use Rattle.lola_engine.specs.declared.end.EngineEnd.{EngineEnd}
@@ -455,8 +455,8 @@ module _ (e : EngineState) (known : IsAccepted e.plan) (s : Seen) (m : Memories)
         ∙ (table_lines-append_one e.show e.plan.spec.streams table row
         ∙ ap (λ ls. table_lines e.show e.plan.spec.streams table ++ ls) (faulty_lines e.show e.plan.spec.streams row f.0 f.1))
 
-    pub fails_out : HasRun (tally_of e) start done m s → (fault : RunFault) (x0 x1 : List ℕ) → FailsOn fault start done (of ∷ []) (tally_of e) x0 x1 → FailsOut fault journal e x0 x1
-    fails_out r fault x0 x1 f =
+    pub faults_out : HasRun (tally_of e) start done m s → (fault : RunFault) (x0 x1 : List ℕ) → FaultInSteps fault start done (of ∷ []) (tally_of e) x0 x1 → FaultAtEnd fault journal e x0 x1
+    faults_out r fault x0 x1 f =
         let none = no_line r fault f.is_fault in
         let empty : f.lines ≡ [] = nothing_behind (lines_after (tally_of e) start done) f.lines (sym f.add ∙ none) in
         record { is_fault = fault_by _ f.is_fault; completes = completes_by [] none; text = f.text ∙ (ap (λ ls. x0 ++ text_of ls) empty ∙ append-nil x0) }
@@ -554,7 +554,7 @@ module _ (e : EngineState) (s : Seen) (m : Memories) (engine : IsEngine e s) (so
     ends_step : (end : EngineEnd) (t : Tally) (s' : Seen) (m' : Memories) (x0 x1 : List ℕ) → Goes (Err end) start (deadline_step due ∷ []) (tally_of e) m s t m' s' x0 x1
         → (journal : List Entry) → IsAt e s m journal → EndsOut end journal e x0 x1
     ends_step (Fault stream kind time) t s' m' x0 x1 goes journal h =
-        fails_out e known s m journal h start (deadline_step due) (is_here journal h) (one_left journal h) (has_all journal h) _ x0 x1
+        faults_out e known s m journal h start (deadline_step due) (is_here journal h) (one_left journal h) (has_all journal h) _ x0 x1
         (goes (past e known s m journal h) [] (has_all journal h))
     ends_step Memory t s' m' x0 x1 goes journal h =
         cuts_out e known s m journal h start (deadline_step due) (is_here journal h) (one_left journal h) x0 x1

@@ -30,9 +30,9 @@ module _ (plan : Plan) (given_start : Option ℕ) where
   unfolding settled_model
   none_settled = refl
 
-  none_fails : settled_fault plan given_start [] ≡ None
+  none_faults : settled_fault plan given_start [] ≡ None
   unfolding settled_fault
-  none_fails = ap (λ t. fault_of_last (last_row t)) none_settled
+  none_faults = ap (λ t. fault_of_last (last_row t)) none_settled
 
   none_told : (show : Show) → settled_lines plan given_start [] show ≡ []
   unfolding settled_lines
@@ -82,7 +82,7 @@ module _ (e : EngineState) (plan : Plan) (texts : Texts) (given_start : Option �
   pub waits : (m : Memories) → given_start ≡ None → ((names : Naming) (n i : ℕ) → i < length (instances_seen s n) → m names n i []) → StandsFor e s m []
   waits m without past = record {
     going = made.nothing.4;
-    fine = none_fails e.plan e.given_start;
+    fine = none_faults e.plan e.given_start;
     merged = made.nothing.1 ∙ sym (ap opening_time (made.given_start_is ∙ without));
     steps = made.nothing.2 ∙ ap length (sym (none_settled e.plan e.given_start));
     lines = made.nothing.3 ∙ ap length (sym (none_told e.plan e.given_start e.show));
@@ -136,7 +136,7 @@ module _ (e : EngineState) (plan : Plan) (texts : Texts) (given_start : Option �
         } in
         record {
           going = made.nothing.4;
-          fine = none_fails e.plan e.given_start;
+          fine = none_faults e.plan e.given_start;
           merged = sym (ap opening_time given_start_is);
           steps = made.nothing.2 ∙ ap length none;
           lines = made.nothing.3 ∙ ap length (sym (none_told e.plan e.given_start e.show));

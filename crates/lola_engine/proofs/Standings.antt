@@ -10,7 +10,7 @@ use Rattle.lola_model.specs.declared.journal.Show.{Show}
 use Rattle.lola_model.specs.declared.plan.Plan.{Plan}
 use Rattle.lola_model.proofs.Journals.{accepted-append, accepted-append_accepted}
 use Rattle.lola_engine.specs.Behind.{AcceptsBehind, FinishesBehind, RunsOutBehind, RunsRowBehind, StandsBehind}
-use Rattle.lola_engine.specs.Engines.{Accepts, Brings, Completes, CutsOut, CutsRow, FailsOut, FailsRow, Finishes, IsUnderWay, IsWaiting, RunsOut, RunsRow, StandsFor, accepted_entry}
+use Rattle.lola_engine.specs.Engines.{Accepts, Brings, Completes, CutsOut, CutsRow, FaultAtEnd, FaultInRow, Finishes, IsUnderWay, IsWaiting, RunsOut, RunsRow, StandsFor, accepted_entry}
 use Rattle.lola_engine.specs.declared.engine.EngineState.{EngineState}
 use Rattle.lola_engine.specs.declared.end.EngineEnd.{EngineEnd}
 use Rattle.lola_engine.specs.declared.end.EngineEnd.TheVariants.{Fault, Memory}
@@ -130,7 +130,7 @@ module _ (e : EngineState) (s : Seen) (m : Memories) (row : Row) (journal : List
 
 -- how a row ends a run
 abbrev pub EndsRow : EngineEnd → Row → List Entry → EngineState → List ℕ → List ℕ → Type 0
-EndsRow (Fault stream kind time) row journal old text0 text1 = FailsRow row (record { stream = stream; kind = kind; time = time }) journal old text0 text1
+EndsRow (Fault stream kind time) row journal old text0 text1 = FaultInRow row (record { stream = stream; kind = kind; time = time }) journal old text0 text1
 EndsRow Memory row journal old text0 text1 = CutsRow row journal old text0 text1
 
 -- what comes of a row whatever is counted comes of it by either count
@@ -158,7 +158,7 @@ pub record RunsOutAt (journal : List Entry) (old new : EngineState) (text0 text1
   pub lines_more : new.lines ≡ old.lines + length lines
 
 abbrev pub EndsOut : EngineEnd → List Entry → EngineState → List ℕ → List ℕ → Type 0
-EndsOut (Fault stream kind time) journal old text0 text1 = FailsOut (record { stream = stream; kind = kind; time = time }) journal old text0 text1
+EndsOut (Fault stream kind time) journal old text0 text1 = FaultAtEnd (record { stream = stream; kind = kind; time = time }) journal old text0 text1
 EndsOut Memory journal old text0 text1 = CutsOut journal old text0 text1
 
 module _ (e : EngineState) (s : Seen) (m : Memories) (new : EngineState) (x0 x1 : List ℕ) where

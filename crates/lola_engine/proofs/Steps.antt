@@ -22,7 +22,7 @@ use Rattle.lola_step.specs.Steps.{IsDoneStep}
 use Rattle.lola_step.specs.declared.step_value.StepValue.{StepValue}
 use Rattle.lola_engine.specs.declared.end.EngineEnd.{EngineEnd}
 use Rattle.lola_engine.specs.declared.end.EngineEnd.TheVariants.{Fault, Memory}
-use Rattle.lola_engine.specs.Going.{Add, CutsOn, EndsOn, FailsOn, Goes, HasRun, RunsOn, Tally, lines_after}
+use Rattle.lola_engine.specs.Going.{Add, CutsOn, EndsOn, FaultInSteps, Goes, HasRun, RunsOn, Tally, lines_after}
 use Rattle.lola_model.proofs.Growing.{is_ended}
 use Rattle.lola_engine.proofs.Tables.{answered_step, faulty_ends, faulty_lines, faulty_row, fine_goes_on, fine_row, lines_stay, one_by_one, one_row_more, rows_end}
 
@@ -81,7 +81,7 @@ module _ (start : ℕ) (steps a b : List Step) (t u : Tally) (m1 : Memories) (s1
   pub ends_then : (e : EngineEnd) (later : List Step) → EndsOn e start (steps ++ a) (b ++ later) u x1 x2 → EndsOn e start steps ((a ++ b) ++ later) t x0 x2
   ends_then (Fault stream kind time) later n =
       let fault : RunFault = record { stream = stream; kind = kind; time = time } in
-      subst (λ xs. FailsOn fault start steps xs t x0 x2) (sym (append_assoc a b later)) (record {
+      subst (λ xs. FaultInSteps fault start steps xs t x0 x2) (sym (append_assoc a b later)) (record {
         is_fault = ap (λ (xs : List Step). fault_of_last (last_row (model t.plan start xs))) (sym (append_assoc steps a (b ++ later))) ∙ fault_same t u plan show start ((steps ++ a) ++ (b ++ later)) fault n.is_fault;
         lines = f.lines ++ n.lines;
         add = add_then t start steps a (b ++ later) f.lines n.lines f.add (add_same t u plan show start (steps ++ a) (b ++ later) n.lines n.add);

@@ -6,7 +6,7 @@ use Rattle.lola_model.specs.Store.{Memories, Seen}
 use Rattle.lola_model.specs.Texts.{text_of}
 use Rattle.lola_model.specs.declared.journal.Entry.{Entry}
 use Rattle.lola_model.specs.declared.journal.Row.{Row}
-use Rattle.lola_engine.specs.Engines.{Brings, Completes, CutsOut, CutsRow, FailsOut, FailsRow, IsUnderWay, IsWaiting, accepted_entry}
+use Rattle.lola_engine.specs.Engines.{Brings, Completes, CutsOut, CutsRow, FaultAtEnd, FaultInRow, IsUnderWay, IsWaiting, accepted_entry}
 use Rattle.lola_engine.specs.declared.engine.EngineState.{EngineState}
 use Rattle.lola_engine.specs.declared.end.EngineEnd.{EngineEnd}
 use Rattle.lola_engine.specs.declared.end.EngineEnd.TheVariants.{Fault, Memory}
@@ -37,7 +37,7 @@ abbrev pub AcceptsBehind : Result (Unit {0}) EngineEnd → Row → EngineState �
 AcceptsBehind (Ok done) row old s remembers new s' remembers' text0 text1 =
     (before journal : List Entry) → StandsBehind old s remembers before journal → RunsRowBehind row before journal old new s' remembers' text0 text1
 AcceptsBehind (Err (Fault stream kind time)) row old s remembers new s' remembers' text0 text1 =
-    (before journal : List Entry) → StandsBehind old s remembers before journal → FailsRow row (record { stream = stream; kind = kind; time = time }) journal old text0 text1
+    (before journal : List Entry) → StandsBehind old s remembers before journal → FaultInRow row (record { stream = stream; kind = kind; time = time }) journal old text0 text1
 AcceptsBehind (Err Memory) row old s remembers new s' remembers' text0 text1 =
     (before journal : List Entry) → StandsBehind old s remembers before journal → CutsRow row journal old text0 text1
 
@@ -55,6 +55,6 @@ abbrev pub FinishesBehind : Result (Unit {0}) EngineEnd → EngineState → Seen
 FinishesBehind (Ok done) old s remembers new text0 text1 =
     (before journal : List Entry) → StandsBehind old s remembers before journal → RunsOutBehind before journal old new text0 text1
 FinishesBehind (Err (Fault stream kind time)) old s remembers new text0 text1 =
-    (before journal : List Entry) → StandsBehind old s remembers before journal → FailsOut (record { stream = stream; kind = kind; time = time }) journal old text0 text1
+    (before journal : List Entry) → StandsBehind old s remembers before journal → FaultAtEnd (record { stream = stream; kind = kind; time = time }) journal old text0 text1
 FinishesBehind (Err Memory) old s remembers new text0 text1 =
     (before journal : List Entry) → StandsBehind old s remembers before journal → CutsOut journal old text0 text1

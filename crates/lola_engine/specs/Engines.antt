@@ -101,7 +101,7 @@ pub record RunsRow (row : Row) (journal : List Entry) (old new : EngineState) (s
   pub stands : StandsFor new s remembers (journal ++ accepted_entry row ∷ [])
 
 -- one of these steps has a fault: the lines of the steps before it are appended
-pub record FailsRow (row : Row) (fault : RunFault) (journal : List Entry) (old : EngineState) (text0 text1 : List ℕ) : Type 0 where
+pub record FaultInRow (row : Row) (fault : RunFault) (journal : List Entry) (old : EngineState) (text0 text1 : List ℕ) : Type 0 where
   pub is_fault : settled_fault old.plan old.given_start (journal ++ accepted_entry row ∷ []) ≡ Some fault
   pub lines : List (List ℕ)
   pub brings : Brings old journal (accepted_entry row) lines
@@ -121,7 +121,7 @@ abbrev pub Accepts : Result (Unit {0}) EngineEnd → Row → EngineState → See
 Accepts (Ok done) row old s remembers new s' remembers' text0 text1 =
     (journal : List Entry) → StandsFor old s remembers journal → RunsRow row journal old new s' remembers' text0 text1
 Accepts (Err (Fault stream kind time)) row old s remembers new s' remembers' text0 text1 =
-    (journal : List Entry) → StandsFor old s remembers journal → FailsRow row (record { stream = stream; kind = kind; time = time }) journal old text0 text1
+    (journal : List Entry) → StandsFor old s remembers journal → FaultInRow row (record { stream = stream; kind = kind; time = time }) journal old text0 text1
 Accepts (Err Memory) row old s remembers new s' remembers' text0 text1 =
     (journal : List Entry) → StandsFor old s remembers journal → CutsRow row journal old text0 text1
 
@@ -139,7 +139,7 @@ pub record RunsOut (journal : List Entry) (old new : EngineState) (text0 text1 :
   pub counted : new.lines ≡ length (final_lines old.plan old.given_start journal old.show)
 
 -- their step has a fault
-pub record FailsOut (fault : RunFault) (journal : List Entry) (old : EngineState) (text0 text1 : List ℕ) : Type 0 where
+pub record FaultAtEnd (fault : RunFault) (journal : List Entry) (old : EngineState) (text0 text1 : List ℕ) : Type 0 where
   pub is_fault : first_fault old.plan old.given_start journal ≡ Some fault
   pub completes : Completes old journal []
   pub text : text1 ≡ text0
@@ -157,7 +157,7 @@ pub record CutsOut (journal : List Entry) (old : EngineState) (text0 text1 : Lis
 abbrev pub Finishes : Result (Unit {0}) EngineEnd → EngineState → Seen → Memories → EngineState → List ℕ → List ℕ → Type 0
 Finishes (Ok done) old s remembers new text0 text1 = (journal : List Entry) → StandsFor old s remembers journal → RunsOut journal old new text0 text1
 Finishes (Err (Fault stream kind time)) old s remembers new text0 text1 =
-    (journal : List Entry) → StandsFor old s remembers journal → FailsOut (record { stream = stream; kind = kind; time = time }) journal old text0 text1
+    (journal : List Entry) → StandsFor old s remembers journal → FaultAtEnd (record { stream = stream; kind = kind; time = time }) journal old text0 text1
 Finishes (Err Memory) old s remembers new text0 text1 = (journal : List Entry) → StandsFor old s remembers journal → CutsOut journal old text0 text1
 
 -- a row that an engine takes: its stamp is a time and not before the merged time, and it has a field for each input, absent or of its kind

@@ -55,7 +55,7 @@ pub record RunsOn (start : ℕ) (steps more : List Step) (old new : Tally) (reme
   pub lines_more : new.lines ≡ old.lines + length lines
 
 -- one of them has a fault: the lines of those before it are appended
-pub record FailsOn (fault : RunFault) (start : ℕ) (steps more : List Step) (old : Tally) (text0 text1 : List ℕ) : Type 0 where
+pub record FaultInSteps (fault : RunFault) (start : ℕ) (steps more : List Step) (old : Tally) (text0 text1 : List ℕ) : Type 0 where
   pub is_fault : fault_of_last (last_row (model old.plan start (steps ++ more))) ≡ Some fault
   pub lines : List (List ℕ)
   pub add : Add old start steps more lines
@@ -72,7 +72,7 @@ pub record CutsOn (start : ℕ) (steps more : List Step) (old : Tally) (text0 te
 
 -- what the end of a run comes to
 abbrev pub EndsOn : EngineEnd → ℕ → List Step → List Step → Tally → List ℕ → List ℕ → Type 0
-EndsOn (Fault stream kind time) start steps more old text0 text1 = FailsOn (record { stream = stream; kind = kind; time = time }) start steps more old text0 text1
+EndsOn (Fault stream kind time) start steps more old text0 text1 = FaultInSteps (record { stream = stream; kind = kind; time = time }) start steps more old text0 text1
 EndsOn Memory start steps more old text0 text1 = CutsOn start steps more old text0 text1
 
 -- what running more steps comes to by the answer, whatever steps were run before, and whatever later ones were still to come

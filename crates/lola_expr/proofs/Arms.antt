@@ -9,7 +9,7 @@ use Rattle.lola_value.specs.declared.value.Value.{Value}
 use Rattle.lola_value.specs.declared.value.Value.TheVariants as value
 use Rattle.lola_value.specs.declared.value.Outcome.{Outcome}
 use Rattle.lola_value.specs.declared.value.Outcome.TheVariants as outcome
-use Rattle.lola_value.specs.Answer.{Answer, Given, Missing, Failed, Poisoned}
+use Rattle.lola_value.specs.Answer.{Answer, Given, Missing, Faulted, Poisoned}
 use Rattle.lola_value.specs.Kinds.{is_integer, is_bool, is_of_kind, is_outcome_of}
 use Rattle.lola_value.specs.Naming.{Naming, read, read_outcome, the_text, text_at, IsHeld, AreHeld, IsHeldIn}
 use Rattle.lola_model.specs.Content.{Content}
@@ -35,7 +35,7 @@ use Rattle.lola_expr.proofs.Parts.{same_kind-true}
 pub stays : (names : Naming) (r : Outcome) (a : Answer) (f : Field → Answer) → ((v : Value) → r ≡ outcome.Value v → ⊥) → read_outcome names r ≡ a → read_outcome names r ≡ and_then a f
 stays names (outcome.Value v) a f ne e = absurd (ne v refl)
 stays names outcome.Missing a f ne e = subst (λ x. Missing ≡ and_then x f) e refl
-stays names (outcome.Fault k) a f ne e = subst (λ x. Failed k ≡ and_then x f) e refl
+stays names (outcome.Fault k) a f ne e = subst (λ x. Faulted k ≡ and_then x f) e refl
 stays names outcome.Poison a f ne e = subst (λ x. Poisoned ≡ and_then x f) e refl
 
 -- what is no value is an outcome of each kind
@@ -53,7 +53,7 @@ goes_on names v a f r e g = subst (λ x. r ≡ and_then x f) e g
 pub defaulted_first : (names : Naming) (r : Outcome) (a b : Answer) → (r ≡ outcome.Missing → ⊥) → read_outcome names r ≡ a → read_outcome names r ≡ defaulted a b
 defaulted_first names (outcome.Value v) a b ne e = subst (λ x. Given (read names v) ≡ defaulted x b) e refl
 defaulted_first names outcome.Missing a b ne e = absurd (ne refl)
-defaulted_first names (outcome.Fault k) a b ne e = subst (λ x. Failed k ≡ defaulted x b) e refl
+defaulted_first names (outcome.Fault k) a b ne e = subst (λ x. Faulted k ≡ defaulted x b) e refl
 defaulted_first names outcome.Poison a b ne e = subst (λ x. Poisoned ≡ defaulted x b) e refl
 
 -- what is missing is

@@ -9,7 +9,7 @@ use Rattle.lola_value.specs.declared.value.Outcome.{Outcome}
 use Rattle.lola_value.specs.declared.value.Outcome.TheVariants as outcome
 use Rattle.lola_value.specs.declared.value.FaultKind.TheVariants as fault
 use Rattle.lola_value.specs.declared.text.Field.TheVariants as field
-use Rattle.lola_value.specs.Answer.{Answer, Given, Failed}
+use Rattle.lola_value.specs.Answer.{Answer, Given, Faulted}
 use Rattle.lola_value.specs.Arithmetic.{is_within, within, divided, is_zero}
 use Rattle.lola_value.specs.Kinds.{is_integer, is_bool, is_text, is_signed, is_of_kind, is_outcome_of}
 use Rattle.lola_value.specs.Naming.{Naming, IsHeldIn, read, read_outcome}
@@ -77,7 +77,7 @@ held_by_kind k t (outcome.Fault f) h names = tt
 held_by_kind k t outcome.Poison h names = tt
 
 -- what reads as a number within a kind is of that kind
-within_kind : (k : Kind) → is_integer k ≡ true → (z : ℤ) (b : Bool) → is_within k z ≡ b → (r : Outcome) → read_outcome [] r ≡ (if b then Given (field.Int z) else Failed fault.Overflow) → is_outcome_of k r ≡ true
+within_kind : (k : Kind) → is_integer k ≡ true → (z : ℤ) (b : Bool) → is_within k z ≡ b → (r : Outcome) → read_outcome [] r ≡ (if b then Given (field.Int z) else Faulted fault.Overflow) → is_outcome_of k r ≡ true
 within_kind k i z true w (outcome.Value (value.Bool x)) e = absurd (cc)
 within_kind k i z true w (outcome.Value (value.Int x)) e = let q : x ≡ z = cc in and_from (is_integer k) (is_within k x) i (ap (is_within k) q ∙ w)
 within_kind k i z true w (outcome.Value (value.Text id)) e = absurd (cc)
@@ -94,7 +94,7 @@ pub of_within : (k : Kind) → is_integer k ≡ true → (z : ℤ) (r : Outcome)
 of_within k i z r e = within_kind k i z (is_within k z) refl r e
 
 -- the same where the divisor is tested
-divided_kind : (k : Kind) → is_integer k ≡ true → (z : ℤ) (b : Bool) (r : Outcome) → read_outcome [] r ≡ (if b then Failed fault.DivZero else within k z) → is_outcome_of k r ≡ true
+divided_kind : (k : Kind) → is_integer k ≡ true → (z : ℤ) (b : Bool) (r : Outcome) → read_outcome [] r ≡ (if b then Faulted fault.DivZero else within k z) → is_outcome_of k r ≡ true
 divided_kind k i z true (outcome.Value v) e = absurd (cc)
 divided_kind k i z true outcome.Missing e = refl
 divided_kind k i z true (outcome.Fault f) e = refl

@@ -8,7 +8,7 @@ use Rattle.lola_value.specs.declared.value.Outcome.{Outcome}
 use Rattle.lola_value.specs.declared.value.Outcome.TheVariants as outcome
 use Rattle.lola_value.specs.declared.value.FaultKind.TheVariants as fault
 use Rattle.lola_value.specs.declared.text.Field.TheVariants as field
-use Rattle.lola_value.specs.Answer.{Given, Failed}
+use Rattle.lola_value.specs.Answer.{Given, Faulted}
 use Rattle.lola_value.specs.Arithmetic.{is_within, within}
 use Rattle.lola_value.specs.Kinds.{is_integer}
 use Rattle.lola_value.specs.Naming.{Naming, IsHeldIn, read_outcome}
@@ -61,7 +61,7 @@ is_wide (value.Int z) s h = by_hand (is_within kind.Int64 z) (is_within kind.UIn
     by_hand false false z q h = absurd (cc)
 
 -- a number that is tested reads as one
-numbered_by : (names : Naming) (z : ℤ) (b : Bool) → read_outcome names (if b then outcome.Value (value.Int z) else outcome.Fault fault.Overflow) ≡ (if b then Given (field.Int z) else Failed fault.Overflow)
+numbered_by : (names : Naming) (z : ℤ) (b : Bool) → read_outcome names (if b then outcome.Value (value.Int z) else outcome.Fault fault.Overflow) ≡ (if b then Given (field.Int z) else Faulted fault.Overflow)
 numbered_by names z true = refl
 numbered_by names z false = refl
 

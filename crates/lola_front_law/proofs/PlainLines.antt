@@ -1,6 +1,6 @@
 -- What is told of a table, and which entries a journal may have, whatever the addresses of boxes.
 use Rattle.std.proofs.Common.{◌≡◌, refl, ap, ap₂, ◌∙◌, ℕ, List, [], ◌∷◌, ◌++◌, Option, true, false, map, if◌then◌else◌, unwrap_or}
-use Rattle.lola_value.specs.Answer.{Answer, Given, Missing, Failed, Poisoned}
+use Rattle.lola_value.specs.Answer.{Answer, Given, Missing, Faulted, Poisoned}
 use Rattle.lola_value.specs.declared.text.Field.{Field}
 use Rattle.lola_value.specs.declared.text.Field.TheVariants as field
 use Rattle.lola_value.specs.declared.value.Kind.{Kind}
@@ -52,7 +52,7 @@ module _ (show : Show) (time : ℕ) where
   same_answer : (s : Stream) (p : List Field) (a : Answer) → answer_lines show time (plain_stream s) p a ≡ answer_lines show time s p a
   same_answer s p (Given v) = same_value s p v
   same_answer s p Missing = refl
-  same_answer s p (Failed k) = refl
+  same_answer s p (Faulted k) = refl
   same_answer s p Poisoned = refl
 
   same_living : (s : Stream) (ls : List Living) → living_lines show time (plain_stream s) ls ≡ living_lines show time s ls

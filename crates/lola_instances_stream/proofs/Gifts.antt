@@ -17,7 +17,7 @@ use Rattle.lola_instances_stream.specs.Each.{Each}
 use Rattle.lola_instances_stream.specs.Givings.{AreGiven, AreReadyFor, HasGiven, HasGivenAt, IsReadyAt, IsReadyFor}
 use Rattle.lola_instances_stream.specs.Listings.{Listing, cell_of}
 use Rattle.lola_instances_stream.specs.Rights.{SlotRight}
-use Rattle.lola_instances_stream.proofs.Outcomes.{failed_right, failed_seen, is_missing, ready, told_right, told_seen}
+use Rattle.lola_instances_stream.proofs.Outcomes.{poisoned_right, poisoned_seen, is_missing, ready, told_right, told_seen}
 
 each_more : (P : Holdings → Type 0) (y : Holdings) (ys : List Holdings) → P y → Each P ys → Each P (y ∷ ys)
 each_more P y ys p h zero z e = let q : y ≡ z = cc in subst P q p
@@ -41,15 +41,15 @@ module _ (step offset : ℕ) where
   own_seen : (r : Outcome) (x y : Holdings) → HasGiven step offset r x y → slot_seen step y ≡ given (slot_seen step x) r
   own_seen (outcome.Value v) x y h = told_seen step offset v x y h
   own_seen outcome.Missing x y h = ap (slot_seen step) h
-  own_seen (outcome.Fault k) x y h = failed_seen step x y h
-  own_seen outcome.Poison x y h = failed_seen step x y h
+  own_seen (outcome.Fault k) x y h = poisoned_seen step x y h
+  own_seen outcome.Poison x y h = poisoned_seen step x y h
 
   own_right : (layout : StreamLayout) (windows : List WindowPanes) (r : Outcome) (x y : Holdings) → SlotRight layout windows true step offset x → IsTrue (is_silent (shown step x))
       → IsTrue (is_outcome_of layout.kind r) → 2 ≤ step → 1 ≤ layout.kept → HasGiven step offset r x y → SlotRight layout windows true step offset y
   own_right layout windows (outcome.Value v) x y p s k l m h = told_right layout windows step offset v x y p h s k l m
   own_right layout windows outcome.Missing x y p s k l m h = subst (SlotRight layout windows true step offset) (sym h) p
-  own_right layout windows (outcome.Fault f) x y p s k l m h = failed_right layout windows step offset x y p h
-  own_right layout windows outcome.Poison x y p s k l m h = failed_right layout windows step offset x y p h
+  own_right layout windows (outcome.Fault f) x y p s k l m h = poisoned_right layout windows step offset x y p h
+  own_right layout windows outcome.Poison x y p s k l m h = poisoned_right layout windows step offset x y p h
 
   own_past : (start time : ℕ) (names : Naming) (values : List (ℕ × Field)) → offset ≡ time - start → start ≤ time → (r : Outcome) (x y : Holdings) → IsTrue (is_silent (shown step x)) → IsHeldIn names r
       → HasGiven step offset r x y → RemembersAt start time step names (Some x) values → RemembersAt start time step names (Some y) values

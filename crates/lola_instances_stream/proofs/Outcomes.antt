@@ -16,7 +16,7 @@ use Rattle.lola_instances_one.specs.Telling.{AllGiven, AllReady}
 use Rattle.lola_instances_one.specs.Texts.{KeepsOutcome}
 use Rattle.lola_instances_one.proofs.Giving.{given_ready, given_told, panes_told}
 use Rattle.lola_instances_one.proofs.Needing.{told_kept}
-use Rattle.lola_instances_stream.specs.Changes.{HasTold, HasFailed, IsChangedAt}
+use Rattle.lola_instances_stream.specs.Changes.{HasTold, WasPoisoned, IsChangedAt}
 use Rattle.lola_instances_stream.specs.Crowds.{shown_at}
 use Rattle.lola_instances_stream.specs.Each.{Each}
 use Rattle.lola_instances_stream.specs.Rights.{IsTimely, SlotRight}
@@ -105,9 +105,9 @@ told_right layout windows step offset v x y h t s k l m =
       untold = λ e. cc;
     }
 
-failed_is : (layout : StreamLayout) (windows : List WindowPanes) (step offset : ℕ) (x : Holdings) → SlotRight layout windows true step offset x
+poisoned_is : (layout : StreamLayout) (windows : List WindowPanes) (step offset : ℕ) (x : Holdings) → SlotRight layout windows true step offset x
     → SlotRight layout windows true step offset (record x { stamp = step; outcome = outcome.Poison })
-failed_is layout windows step offset x h =
+poisoned_is layout windows step offset x h =
     let l = h.timely.stamp_le in
     record {
       steady = record {
@@ -127,9 +127,9 @@ failed_is layout windows step offset x h =
       untold = λ e. cc;
     }
 
-pub failed_right : (layout : StreamLayout) (windows : List WindowPanes) (step offset : ℕ) (x y : Holdings) → SlotRight layout windows true step offset x → HasFailed step x y
+pub poisoned_right : (layout : StreamLayout) (windows : List WindowPanes) (step offset : ℕ) (x y : Holdings) → SlotRight layout windows true step offset x → WasPoisoned step x y
     → SlotRight layout windows true step offset y
-failed_right layout windows step offset x y h t = subst (SlotRight layout windows true step offset) (sym t.slot) (failed_is layout windows step offset x h)
+poisoned_right layout windows step offset x y h t = subst (SlotRight layout windows true step offset) (sym t.slot) (poisoned_is layout windows step offset x h)
 
 -- one instance of a list became another
 
@@ -169,8 +169,8 @@ module _ (R : Holdings → Holdings → Type 0) (i : ℕ) (xs ys : List Holdings
 pub told_seen : (step offset : ℕ) (v : Value) (x y : Holdings) → HasTold step offset v x y → slot_seen step y ≡ record { params = x.params; born = x.born; outcome = outcome.Value v }
 told_seen step offset v x y t = let some = shown_now step y (outcome.Value v) t.stamp t.outcome in λ i. record { params = t.params i; born = t.born i; outcome = some i }
 
-pub failed_seen : (step : ℕ) (x y : Holdings) → HasFailed step x y → slot_seen step y ≡ record { params = x.params; born = x.born; outcome = outcome.Poison }
-failed_seen step x y t =
+pub poisoned_seen : (step : ℕ) (x y : Holdings) → WasPoisoned step x y → slot_seen step y ≡ record { params = x.params; born = x.born; outcome = outcome.Poison }
+poisoned_seen step x y t =
     let some = shown_now step y outcome.Poison (ap (λ (s : Holdings). s.stamp) t.slot) (ap (λ (s : Holdings). s.outcome) t.slot) in
     λ i. record { params = (t.slot i).params; born = (t.slot i).born; outcome = some i }
 

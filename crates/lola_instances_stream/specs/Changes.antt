@@ -23,7 +23,7 @@ pub record HasTold (step offset : ℕ) (v : Value) (x y : Holdings) : Type 0 whe
       → Remembers start time step names y values
 
 -- it was poisoned in the step of a number
-pub record HasFailed (step : ℕ) (x y : Holdings) : Type 0 where
+pub record WasPoisoned (step : ℕ) (x y : Holdings) : Type 0 where
   pub slot : y ≡ record x { stamp = step; outcome = outcomes.Poison }
   pub past : (start time : ℕ) (names : Naming) (values : List (ℕ × Field)) → Remembers start time step names x values
       → shown step x ≡ outcomes.Missing → Remembers start time step names y values

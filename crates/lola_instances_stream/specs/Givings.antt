@@ -5,15 +5,15 @@ use Rattle.lola_value.specs.declared.value.Outcome.TheVariants as outcome
 use Rattle.lola_instances_one.specs.Holdings.{Holdings}
 use Rattle.lola_instances_one.specs.Telling.{AllReady}
 use Rattle.lola_instances_stream.specs.Cells.{IsSlotChanged}
-use Rattle.lola_instances_stream.specs.Changes.{HasFailed, HasTold}
+use Rattle.lola_instances_stream.specs.Changes.{WasPoisoned, HasTold}
 
 -- an instance was given an outcome in the step of a number, at an offset from the start: a value was told, a fault or poison poisoned it,
 -- and where there is none it is as it was
 abbrev pub HasGiven : ℕ → ℕ → Outcome → Holdings → Holdings → Type 0
 HasGiven step offset (outcome.Value v) x y = HasTold step offset v x y
 HasGiven step offset outcome.Missing x y = y ≡ x
-HasGiven step offset (outcome.Fault k) x y = HasFailed step x y
-HasGiven step offset outcome.Poison x y = HasFailed step x y
+HasGiven step offset (outcome.Fault k) x y = WasPoisoned step x y
+HasGiven step offset outcome.Poison x y = WasPoisoned step x y
 
 -- each of these instances was given its outcome
 abbrev pub AreGiven : ℕ → ℕ → List Holdings → List Outcome → List Holdings → Type 0

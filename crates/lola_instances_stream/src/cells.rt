@@ -7,7 +7,7 @@ ghost use Rattle.lola_value.specs.Kinds.{is_well_formed, same_params};
 ghost use Rattle.lola_instances_one.specs.Holdings.{Holdings};
 ghost use Rattle.lola_instances_one.specs.Telling.{AllReady};
 ghost use Rattle.lola_instances_stream.specs.Cells.{AreKnown, AreFlagged, IsSlotChanged, IsTaken, StandsIn, living};
-ghost use Rattle.lola_instances_stream.specs.Changes.{HasTold, HasFailed, IsChangedAt};
+ghost use Rattle.lola_instances_stream.specs.Changes.{HasTold, WasPoisoned, IsChangedAt};
 ghost use Rattle.lola_instances_stream.specs.Crowds.{place_in};
 ghost use Rattle.lola_instances_stream.specs.Givings.{AreGiven, AreReadyFor};
 
@@ -153,7 +153,7 @@ pub(crate) fn tell_in(slot: &mut Option<Instance>, step: u64, offset: u64, value
 // Poison in this step, for the instance in a cell.
 pub(crate) fn poison_in(slot: &mut Option<Instance>, step: u64)
     requires { IsTaken (Some slot.old) }
-    ensures { IsSlotChanged (HasFailed step) slot.old slot.new }
+    ensures { IsSlotChanged (WasPoisoned step) slot.old slot.new }
 {
     match slot {
         Some(slot) => slot.poison(step),
@@ -393,7 +393,7 @@ impl Cells {
     /// Poison in this step, for the instance at a place.
     pub fn poison(&mut self, place: usize, step: u64)
         requires { place < length self.old.items }
-        ensures changed { IsChangedAt (HasFailed step) place self.old.items self.new.items }
+        ensures changed { IsChangedAt (WasPoisoned step) place self.old.items self.new.items }
         ensures rest { self.new ≡ record self.old { items = self.new.items } }
     {
         let cell = cell_at(&self.cells, &self.flags, self.empty, place);

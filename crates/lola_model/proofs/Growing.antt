@@ -1,10 +1,10 @@
 -- One step more: the model goes on by one row, unless its last row has a fault.
 use Rattle.std.proofs.Common.{◌≡◌, refl, ap, sym, ◌∙◌, ℕ, zero, suc, ◌+◌, ◌<◌, List, [], ◌∷◌, ◌++◌, Option, Some, None, is_some, Bool, true, false, ◌||◌, length, slice_get, arith, append_assoc, append-nil, length-append}
-use Rattle.lola_value.specs.Answer.{Answer, Given, Missing, Failed, Poisoned}
+use Rattle.lola_value.specs.Answer.{Answer, Given, Missing, Faulted, Poisoned}
 use Rattle.lola_value.specs.declared.value.FaultKind.{FaultKind}
-use Rattle.lola_model.specs.Table.{Step, Spawned, Idle, Named, SpawnFailed, SpawnPoisoned, Living, StreamRow, TableRow}
-use Rattle.lola_model.specs.Model.{answered, has_fault, has_failed, some_failed, spawn_has_failed, has_evaluation_fault, has_close_fault, Next, in_order, made, model, last_row}
-use Rattle.lola_model.specs.Faults.{RowFault, lesser_kind, add_failed, least_failed, least_kind, own_fault, first_with, or_else, row_fault, at_time, fault_of_last}
+use Rattle.lola_model.specs.Table.{Step, Spawned, Idle, Named, SpawnFaulted, SpawnPoisoned, Living, StreamRow, TableRow}
+use Rattle.lola_model.specs.Model.{answered, has_fault, has_faulted, some_faulted, spawn_has_faulted, has_evaluation_fault, has_close_fault, Next, in_order, made, model, last_row}
+use Rattle.lola_model.specs.Faults.{RowFault, lesser_kind, add_faulted, least_faulted, least_kind, own_fault, first_with, or_else, row_fault, at_time, fault_of_last}
 use Rattle.lola_model.specs.declared.plan.Plan.{Plan}
 
 -- an element of the front of two lists
@@ -160,15 +160,15 @@ some_lesser : (k : FaultKind) (o : Option FaultKind) → is_some (lesser_kind k 
 some_lesser k None = refl
 some_lesser k (Some j) = refl
 
-some_added : (a : Answer) (o : Option FaultKind) (b : Bool) → is_some o ≡ b → is_some (add_failed a o) ≡ (has_failed a || b)
+some_added : (a : Answer) (o : Option FaultKind) (b : Bool) → is_some o ≡ b → is_some (add_faulted a o) ≡ (has_faulted a || b)
 some_added (Given v) o b e = e
 some_added Missing o b e = e
-some_added (Failed k) o b e = some_lesser k o
+some_added (Faulted k) o b e = some_lesser k o
 some_added Poisoned o b e = e
 
-some_least : (ls : List Living) → is_some (least_failed ls) ≡ some_failed ls
+some_least : (ls : List Living) → is_some (least_faulted ls) ≡ some_faulted ls
 some_least [] = refl
-some_least (l ∷ ls) = some_added l.outcome (least_failed ls) (some_failed ls) (some_least ls)
+some_least (l ∷ ls) = some_added l.outcome (least_faulted ls) (some_faulted ls) (some_least ls)
 
 some_first : (f : StreamRow → Option FaultKind) (n : ℕ) (s : StreamRow) (ss : List StreamRow) → is_some (first_with f n (s ∷ ss)) ≡ (is_some (f s) || is_some (first_with f (n + 1) ss))
 some_first f n s ss = go (f s)
@@ -177,13 +177,13 @@ some_first f n s ss = go (f s)
     go None = refl
     go (Some k) = refl
 
-own_some : (s : StreamRow) → is_some (own_fault s) ≡ (spawn_has_failed s.spawned || some_failed s.living)
+own_some : (s : StreamRow) → is_some (own_fault s) ≡ (spawn_has_faulted s.spawned || some_faulted s.living)
 own_some s = go s.spawned
   where
-    go : (p : Spawned) → is_some (elim p [ Idle ↦ least_failed s.living | Named q ↦ least_failed s.living | SpawnFailed k ↦ Some k | SpawnPoisoned ↦ least_failed s.living ]) ≡ (spawn_has_failed p || some_failed s.living)
+    go : (p : Spawned) → is_some (elim p [ Idle ↦ least_faulted s.living | Named q ↦ least_faulted s.living | SpawnFaulted k ↦ Some k | SpawnPoisoned ↦ least_faulted s.living ]) ≡ (spawn_has_faulted p || some_faulted s.living)
     go Idle = some_least s.living
     go (Named q) = some_least s.living
-    go (SpawnFailed k) = refl
+    go (SpawnFaulted k) = refl
     go SpawnPoisoned = some_least s.living
 
 or_assoc : (a b c : Bool) → (a || b) || c ≡ a || (b || c)
@@ -195,8 +195,8 @@ some_evaluation n [] = refl
 some_evaluation n (s ∷ ss) =
     some_first own_fault n s ss
     ∙ (ap (λ b. b || is_some (first_with own_fault (n + 1) ss)) (own_some s)
-    ∙ (or_assoc (spawn_has_failed s.spawned) (some_failed s.living) (is_some (first_with own_fault (n + 1) ss))
-    ∙ ap (λ b. spawn_has_failed s.spawned || (some_failed s.living || b)) (some_evaluation (n + 1) ss)))
+    ∙ (or_assoc (spawn_has_faulted s.spawned) (some_faulted s.living) (is_some (first_with own_fault (n + 1) ss))
+    ∙ ap (λ b. spawn_has_faulted s.spawned || (some_faulted s.living || b)) (some_evaluation (n + 1) ss)))
 
 some_kind : (s : StreamRow) (b : Bool) → (is_some (least_kind s.close_faults) || b) ≡ (elim s.close_faults [ [] ↦ b | k ∷ ks ↦ true ])
 some_kind s b = go s.close_faults

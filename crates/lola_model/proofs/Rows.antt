@@ -7,7 +7,7 @@ use Rattle.std.specs.List.{list_any, Contains}
 use Rattle.csv.specs.Writing.{escaped, fields_text, is_blank}
 use Rattle.lola_model.proofs.Strictly.{Contains-none, Contains-cases}
 use Rattle.std.specs.Prelude.{codes, decimal, replicate, length, ◌-◌}
-use Rattle.lola_value.specs.Answer.{Answer, Given, Missing, Failed, Poisoned}
+use Rattle.lola_value.specs.Answer.{Answer, Given, Missing, Faulted, Poisoned}
 use Rattle.lola_value.specs.declared.text.Field.TheVariants as field
 use Rattle.lola_value.specs.declared.value.Kind.TheVariants as kind
 use Rattle.lola_value.specs.declared.value.FaultKind.TheVariants as fault
@@ -64,7 +64,7 @@ it_has_no_fault u = refl
 -- the same with a value that is too great for a sum: the run ends at its row
 a_sum_overflows : (u : Around) → map gist (whole_model (sum_and_trigger u) None (accepted_all (row_at 0 (int 1) ∷ row_at second (int 9223372036854775807) ∷ row_at (2 * second) (int 5) ∷ [])))
     ≡ (0, (Given (int 1) ∷ []) ∷ (Given (int 2) ∷ []) ∷ (Given (field.Bool false) ∷ []) ∷ [])
-    ∷ (second, (Given (int 9223372036854775807) ∷ []) ∷ (Failed fault.Overflow ∷ []) ∷ (Poisoned ∷ []) ∷ []) ∷ []
+    ∷ (second, (Given (int 9223372036854775807) ∷ []) ∷ (Faulted fault.Overflow ∷ []) ∷ (Poisoned ∷ []) ∷ []) ∷ []
 unfolding whole_model
 a_sum_overflows u = refl
 

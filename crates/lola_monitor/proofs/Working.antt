@@ -18,7 +18,7 @@ use Rattle.lola_report.specs.declared.end.EndLine.TheVariants.{Done, Usage, Refu
 use Rattle.lola_monitor_run.specs.Verdicts.{HasFront, IsRowFault, Setting, verdicts}
 use Rattle.lola_monitor_run.specs.Running.{Keeping, setting_in}
 use Rattle.lola_monitor_run.specs.Behind.{HasFrontBehind, IsBehind, IsRowFaultBehind, verdicts_behind}
-use Rattle.lola_monitor_run.proofs.Fronts.{nothing_fails, nothing_final}
+use Rattle.lola_monitor_run.proofs.Fronts.{nothing_faults, nothing_final}
 use Rattle.lola_monitor_run.proofs.Sinks.{grown_nil}
 use Rattle.lola_monitor_run.proofs.TextsBehind.{settled_first, verdicts_first}
 use Rattle.lola_monitor_command.specs.declared.command.DrillCommand.{DrillCommand}
@@ -262,7 +262,7 @@ module _ (words : List (List ℕ)) (names : Names) (plan : Plan) (before after :
             rose = rose_by r.rose;
             unless_given = λ place ask there none. refl;
             read = λ were. let given = given_at r.asks r.at r.ask r.is_ask were in let none = r.not_given in absurd (cc);
-            no_fault = nothing_fails s;
+            no_fault = nothing_faults s;
             line_is = refl;
           };
           put = record {

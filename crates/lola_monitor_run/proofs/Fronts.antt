@@ -53,6 +53,6 @@ pub nothing_final : (s : Setting) → verdicts s [] ≡ []
 unfolding final_lines whole_model
 nothing_final s = refl
 
-pub nothing_fails : (s : Setting) → fault_in s [] ≡ None
+pub nothing_faults : (s : Setting) → fault_in s [] ≡ None
 unfolding first_fault whole_model
-nothing_fails s = refl
+nothing_faults s = refl

@@ -13,7 +13,7 @@ use Rattle.lola_model.specs.declared.journal.Show.{Show}
 use Rattle.lola_model.specs.declared.plan.Plan.{Plan}
 use Rattle.lola_model.proofs.Journals.{IsLegalFrom-append_right, accepted-append, accepted_is_row, rightly_accepted, settled_lines-append_late, text_of-append}
 use Rattle.lola_engine.proofs.LateRows.{late_stands}
-use Rattle.lola_engine.specs.Engines.{Brings, CutsRow, FailsRow, IsEngine, IsTakeable, StandsFor, accepted_entry}
+use Rattle.lola_engine.specs.Engines.{Brings, CutsRow, FaultInRow, IsEngine, IsTakeable, StandsFor, accepted_entry}
 use Rattle.lola_engine.specs.declared.engine.EngineState.{EngineState}
 use Rattle.lola_engine.specs.declared.end.EngineEnd.{EngineEnd}
 use Rattle.lola_engine.specs.declared.end.EngineEnd.TheVariants.{Fault, Memory}
@@ -128,7 +128,7 @@ module _ (entries : List Entry) (i : ℕ) (entry : Entry) (lt : i < length entri
     whole_is = around entries i entry lt is ∙ ap (λ e. front ++ e ∷ rest) so
 
     -- by a fault
-    pub met : (fault : RunFault) → FailsRow entry.row fault front now text text' → HasMet fault entries old text0 text'
+    pub met : (fault : RunFault) → FaultInRow entry.row fault front now text text' → HasMet fault entries old text0 text'
     met fault f =
         let at : settled_fault old.plan old.given_start (front ++ accepted_entry entry.row ∷ []) ≡ Some fault = sym (same_fault old now run.setting (front ++ accepted_entry entry.row ∷ [])) ∙ f.is_fault in
         record {

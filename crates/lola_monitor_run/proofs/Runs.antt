@@ -213,8 +213,8 @@ module _ (first : World) (n k : ℕ) (now last : World) (within : k < length fir
       }
 
   -- the lines before a fault were cut short
-  fails_cut : (fault : RunFault) → SawCutFault fault k now last → RanToCutFaultBehind true before fault first last
-  fails_cut fault saw =
+  faults_cut : (fault : RunFault) → SawCutFault fault k now last → RanToCutFaultBehind true before fault first last
+  faults_cut fault saw =
       let bad = saw.runs before (before ++ so.journal) (so.stands before stood) in
       record {
         came = came_on first n k now last within so saw.entry saw.traced before stood;
@@ -296,7 +296,7 @@ module _ (first : World) (n k : ℕ) (now last : World) (within : k < length fir
 
   stops_from : (how : Stop) → Steps (Err how) k now last → RunsBehind true before (Err how) first last
   stops_from (stop.Fault stream kind time) saw = fails (record { stream = stream; kind = kind; time = time }) saw
-  stops_from (stop.CutFault stream kind time) saw = fails_cut (record { stream = stream; kind = kind; time = time }) saw
+  stops_from (stop.CutFault stream kind time) saw = faults_cut (record { stream = stream; kind = kind; time = time }) saw
   stops_from stop.Put saw = put_fault saw
   stops_from stop.Memory saw = out_of_memory saw
 

@@ -113,18 +113,18 @@ pub record RanRow (row : Row) (old new : Keeping) (text : List ℕ) : Type 0 whe
   pub setting : IsSetAs old new
 
 -- a step of a row has a fault
-abbrev pub FailedRow : Row → Keeping → Keeping → List ℕ → RunFault → Type 0
-FailedRow row old new text fault = AcceptsRow (Err (engine_end.Fault fault.stream fault.kind fault.time)) row old new text
+abbrev pub FaultOfRow : Row → Keeping → Keeping → List ℕ → RunFault → Type 0
+FaultOfRow row old new text fault = AcceptsRow (Err (engine_end.Fault fault.stream fault.kind fault.time)) row old new text
 
 -- the lines of a row are there: it was run, or has a fault
 abbrev pub HasText : Row → Keeping → Keeping → List ℕ → Type 0
-HasText row old new text = RanRow row old new text ⊎ ((fault : RunFault) × FailedRow row old new text fault)
+HasText row old new text = RanRow row old new text ⊎ ((fault : RunFault) × FaultOfRow row old new text fault)
 
 -- an accepted row was run and its text put, or what kept it from that
 abbrev pub RunsAccepted : Result (Unit {0}) Stop → Row → Keeping → Keeping → SinkState → SinkState → Type 0
 RunsAccepted (Ok done) row old new out0 out1 = (text : List ℕ) × RanRow row old new text × (out1 ≡ grown out0 text)
-RunsAccepted (Err (stop.Fault stream kind time)) row old new out0 out1 = (text : List ℕ) × FailedRow row old new text (record { stream = stream; kind = kind; time = time }) × (out1 ≡ grown out0 text)
-RunsAccepted (Err (stop.CutFault stream kind time)) row old new out0 out1 = (text : List ℕ) × FailedRow row old new text (record { stream = stream; kind = kind; time = time }) × PutBroke out0 out1 text
+RunsAccepted (Err (stop.Fault stream kind time)) row old new out0 out1 = (text : List ℕ) × FaultOfRow row old new text (record { stream = stream; kind = kind; time = time }) × (out1 ≡ grown out0 text)
+RunsAccepted (Err (stop.CutFault stream kind time)) row old new out0 out1 = (text : List ℕ) × FaultOfRow row old new text (record { stream = stream; kind = kind; time = time }) × PutBroke out0 out1 text
 RunsAccepted (Err stop.Put) row old new out0 out1 = (text : List ℕ) × RanRow row old new text × PutBroke out0 out1 text
 RunsAccepted (Err stop.Memory) row old new out0 out1 = (text : List ℕ) × (AcceptsRow (Err engine_end.Memory) row old new text ⊎ HasText row old new text) × (out1 ≡ out0)
 

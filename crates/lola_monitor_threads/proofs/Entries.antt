@@ -23,7 +23,7 @@ use Rattle.lola_monitor_run.proofs.Sinks.{broke_behind, more_text}
 use Rattle.lola_monitor_run.proofs.Taking.{accepted_append, late_append}
 use Rattle.lola_monitor_run.proofs.TextsBehind.{HasAll, all_put_behind, cut_at_row_behind, has_all_more, last_not_put_behind, settled_more}
 use Rattle.lola_monitor_run.proofs.Writing.{received_more, rose_behind, writes_more}
-use Rattle.lola_monitor_threads.specs.Takings.{HasFailed, HasRun, Halts, IsCutAtFault, IsCutInRow, IsFit, IsOutOfMemory, IsStopped, IsPartlyRun, Place, RunsOne, StopsBy, most_taken, place}
+use Rattle.lola_monitor_threads.specs.Takings.{HasMetFault, HasRun, Halts, IsCutAtFault, IsCutInRow, IsFit, IsOutOfMemory, IsStopped, IsPartlyRun, Place, RunsOne, StopsBy, most_taken, place}
 use Rattle.lola_monitor_threads.specs.declared.halt.Halt.{Halt}
 use Rattle.lola_monitor_threads.specs.declared.halt.Halt.TheVariants as halt
 
@@ -106,15 +106,15 @@ module _ (first : Place) (journal : List Entry) (k0 : Keeping) (o0 t0 : SinkStat
         settled = fault_is (Some fault) is;
       }
 
-      failed : (fault : RunFault) → FaultNext fault (before ++ journal) entry k0 o0 o1 → IsAccepted entry → HasFailed fault before first (journal ++ entry ∷ []) (place k1 o1 t1)
+      failed : (fault : RunFault) → FaultNext fault (before ++ journal) entry k0 o0 o1 → IsAccepted entry → HasMetFault fault before first (journal ++ entry ∷ []) (place k1 o1 t1)
       failed fault bad accepted = record {
         stands = row_fault fault accepted bad.is_fault;
         trace = trace_is;
         out = more_text _ _ _ _ _ _ (so.out before stood) bad.out (text_is bad.lines bad.brings);
       }
 
-      failed_cut : (fault : RunFault) → CutFaultNext fault (before ++ journal) entry k0 o0 o1 → IsAccepted entry → IsCutAtFault fault before first (journal ++ entry ∷ []) (place k1 o1 t1)
-      failed_cut fault bad accepted = record {
+      faulted_cut : (fault : RunFault) → CutFaultNext fault (before ++ journal) entry k0 o0 o1 → IsAccepted entry → IsCutAtFault fault before first (journal ++ entry ∷ []) (place k1 o1 t1)
+      faulted_cut fault bad accepted = record {
         stands = row_fault fault accepted bad.is_fault;
         trace = trace_is;
         out = subst (PutBroke first.out o1) (sym (text_is bad.lines bad.brings))
@@ -166,7 +166,7 @@ module _ (first : Place) (journal : List Entry) (k0 : Keeping) (o0 t0 : SinkStat
     ran_one (Err (stop.Fault stream kind time)) takes writes taken setting = stopped (stop.Fault stream kind time) writes
         (λ before stood. failed before stood (record { stream = stream; kind = kind; time = time }) (takes.0 before (before ++ journal) (so.stands before stood)) takes.1)
     ran_one (Err (stop.CutFault stream kind time)) takes writes taken setting = stopped (stop.CutFault stream kind time) writes
-        (λ before stood. failed_cut before stood (record { stream = stream; kind = kind; time = time }) (takes.0 before (before ++ journal) (so.stands before stood)) takes.1)
+        (λ before stood. faulted_cut before stood (record { stream = stream; kind = kind; time = time }) (takes.0 before (before ++ journal) (so.stands before stood)) takes.1)
     ran_one (Err stop.Put) takes writes taken setting = stopped stop.Put writes (λ before stood. inr (broken before stood (takes.0 before (before ++ journal) (so.stands before stood)) takes.1))
     ran_one (Err stop.Memory) takes writes taken setting = stopped stop.Memory writes (λ before stood. unput before stood (takes before (before ++ journal) (so.stands before stood)))
 

@@ -40,7 +40,7 @@ pub record HasRun (first : Place) (journal : List Entry) (now : Place) : Type 0 
   pub out : (before : List Entry) → IsBehind before before first.kept → now.out ≡ grown first.out (settled_behind (setting_in first.kept) before journal)
 
 -- the last of them has a fault
-pub record HasFailed (fault : RunFault) (before : List Entry) (first : Place) (journal : List Entry) (now : Place) : Type 0 where
+pub record HasMetFault (fault : RunFault) (before : List Entry) (first : Place) (journal : List Entry) (now : Place) : Type 0 where
   pub stands : IsRowFaultBehind (setting_in first.kept) before journal fault
   pub trace : now.trace ≡ grown first.trace (trace_text journal)
   pub out : now.out ≡ grown first.out (settled_behind (setting_in first.kept) before journal)
@@ -70,7 +70,7 @@ pub record IsOutOfMemory (before : List Entry) (first : Place) (journal : List E
 
 -- what stopped a run at a journal behind a front that it stood for at first, and what was put
 abbrev pub StopsBy : Stop → List Entry → Place → List Entry → Place → Type 0
-StopsBy (stop.Fault stream kind time) before first journal now = HasFailed (record { stream = stream; kind = kind; time = time }) before first journal now
+StopsBy (stop.Fault stream kind time) before first journal now = HasMetFault (record { stream = stream; kind = kind; time = time }) before first journal now
 StopsBy (stop.CutFault stream kind time) before first journal now = IsCutAtFault (record { stream = stream; kind = kind; time = time }) before first journal now
 StopsBy stop.Put before first journal now = IsCutInTrace before first journal now ⊎ IsCutInRow before first journal now
 StopsBy stop.Memory before first journal now = IsOutOfMemory before first journal now

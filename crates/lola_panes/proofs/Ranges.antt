@@ -13,7 +13,7 @@ use Rattle.lola_value.specs.declared.value.Value.{Value}
 use Rattle.lola_value.specs.declared.value.Value.TheVariants as value
 use Rattle.lola_value.specs.declared.text.Field.{Field}
 use Rattle.lola_value.specs.declared.text.Field.TheVariants as field
-use Rattle.lola_value.specs.Answer.{Answer, Given, Failed}
+use Rattle.lola_value.specs.Answer.{Answer, Given, Faulted}
 use Rattle.lola_value.specs.declared.value.FaultKind.TheVariants as fault
 use Rattle.lola_value.specs.Arithmetic.{within, is_within}
 use Rattle.lola_panes.specs.Weights.{better, best_of, best_after, number_of_value}
@@ -26,7 +26,7 @@ AllIn k (z ∷ zs) = IsTrue (is_within k z) × AllIn k zs
 
 -- a number within the kind passes its test
 pub given : (k : Kind) (z : ℤ) → IsTrue (is_within k z) → within k z ≡ Given (field.Int z)
-given k z h = again (is_within k z) (Given (field.Int z)) (Failed fault.Overflow) h
+given k z h = again (is_within k z) (Given (field.Int z)) (Faulted fault.Overflow) h
   where
     again : (b : Bool) (x y : Answer) → b ≡ true → (if b then x else y) ≡ x
     again true x y h = refl

@@ -4,7 +4,7 @@ use Rattle.std.specs.List.{AllByRecursion}
 use Rattle.lola_value.specs.declared.text.Field.{Field}
 use Rattle.lola_value.specs.declared.text.Field.TheVariants as field
 use Rattle.lola_value.specs.declared.value.Kind.{Kind}
-use Rattle.lola_value.specs.Answer.{Answer, Given, Missing, Failed, Poisoned}
+use Rattle.lola_value.specs.Answer.{Answer, Given, Missing, Faulted, Poisoned}
 use Rattle.lola_model.specs.Denotation.{kind_of, negated, operated}
 use Rattle.lola_model.specs.Graph.{edge_to, reads, reads_all, weight_of, window_edge}
 use Rattle.lola_model.specs.declared.expr.Access.{Access}
@@ -39,14 +39,14 @@ module _ (P : Question → Type 0) where
   value-asks (Err o) f hr hf = hr
   value-asks (Ok (Given v)) f hr hf = hf v
   value-asks (Ok Missing) f hr hf = known-asks _
-  value-asks (Ok (Failed k)) f hr hf = known-asks _
+  value-asks (Ok (Faulted k)) f hr hf = known-asks _
   value-asks (Ok Poisoned) f hr hf = known-asks _
 
   default-asks : (r s : Try) → Asks r → Asks s → Asks (then_default r s)
   default-asks (Err o) s hr hs = hr
   default-asks (Ok (Given v)) s hr hs = known-asks _
   default-asks (Ok Missing) s hr hs = hs
-  default-asks (Ok (Failed k)) s hr hs = known-asks _
+  default-asks (Ok (Faulted k)) s hr hs = known-asks _
   default-asks (Ok Poisoned) s hr hs = known-asks _
 
   right-asks : (operator : Binary) (k : Kind) (v : Field) (s : Try) → Asks s → Asks (then_right operator k v s)
@@ -88,7 +88,7 @@ module _ (P : Question → Type 0) where
   argument-asks (Ok (Given v)) (Ok (Ok vs)) hr hs = known-asks _
   argument-asks (Ok (Given v)) (Ok (Err b)) hr hs = known-asks _
   argument-asks (Ok Missing) rest hr hs = known-asks _
-  argument-asks (Ok (Failed k)) rest hr hs = known-asks _
+  argument-asks (Ok (Faulted k)) rest hr hs = known-asks _
   argument-asks (Ok Poisoned) rest hr hs = known-asks _
 
   arguments-asks : (r : Result (Result (List Field) Answer) Question) (f : List Field → Try) → Asks r → ((vs : List Field) → Asks (f vs)) → Asks (on_arguments r f)

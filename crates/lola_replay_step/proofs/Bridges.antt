@@ -8,7 +8,7 @@ use Rattle.lola_model.specs.Activity.{is_active}
 use Rattle.lola_model.specs.Content.{Life, StreamContent, content, is_bad, life_of, seen, streams_from, values_over}
 use Rattle.lola_model.specs.Denotation.{target_kind, window_of}
 use Rattle.lola_model.specs.Model.{is_among, is_input, last_row, most_instances, newborn, outcome_of, outcomes_from, spawn_outcome, spawn_pacing, spawned_in, stream_outcome, survivors}
-use Rattle.lola_model.specs.Table.{Step, Instance, Living, Spawned, Idle, Named, SpawnFailed, SpawnPoisoned, StreamRow, TableRow}
+use Rattle.lola_model.specs.Table.{Step, Instance, Living, Spawned, Idle, Named, SpawnFaulted, SpawnPoisoned, StreamRow, TableRow}
 use Rattle.lola_model.specs.declared.expr.Access.{Access}
 use Rattle.lola_model.specs.declared.expr.Access.TheVariants as access
 use Rattle.lola_model.specs.declared.plan.Plan.{Plan}
@@ -74,7 +74,7 @@ module _ (rows : List TableRow) (time n : ℕ) (comes : Instance → Answer) whe
   newborn-new : (sp : Spawned) (alive : List Instance) → AreNew (newborn sp alive (length rows))
   newborn-new Idle alive = tt
   newborn-new (Named p) alive = new-if (not (is_among p alive) && nat_lt (length alive) most_instances) p
-  newborn-new (SpawnFailed k) alive = tt
+  newborn-new (SpawnFaulted k) alive = tt
   newborn-new SpawnPoisoned alive = tt
 
   -- of a stream

@@ -3,14 +3,14 @@ use Rattle.std.proofs.Common.{◌≡◌, ◌∙◌, refl, sym, ap, ℕ, List, []
 use Rattle.lola_value.specs.declared.text.Field.{Field}
 use Rattle.lola_value.specs.declared.text.Field.TheVariants as field
 use Rattle.lola_value.specs.declared.value.FaultKind.TheVariants as fault
-use Rattle.lola_value.specs.Answer.{Answer, Given, Missing, Failed, Poisoned}
+use Rattle.lola_value.specs.Answer.{Answer, Given, Missing, Faulted, Poisoned}
 use Rattle.lola_value.specs.Arithmetic.{all_equal}
 use Rattle.lola_model.specs.Accesses.{answer_of}
 use Rattle.lola_model.specs.Activity.{is_active_for}
 use Rattle.lola_model.specs.Content.{Content, content, is_bad, time_of}
 use Rattle.lola_model.specs.Denotation.{den, window_of}
 use Rattle.lola_model.specs.Model.{clause_answer, close_answer, eval_outcome, eval_pacing, first_answer, guarded, input_outcome, is_among, is_input, most_instances, named_params, naming_outcome, spawn_guarded, spawn_outcome, when_answer}
-use Rattle.lola_model.specs.Table.{Step, Instance, Spawned, Idle, Named, SpawnFailed, SpawnPoisoned, StreamRow, TableRow}
+use Rattle.lola_model.specs.Table.{Step, Instance, Spawned, Idle, Named, SpawnFaulted, SpawnPoisoned, StreamRow, TableRow}
 use Rattle.lola_model.specs.declared.expr.Access.{Access}
 use Rattle.lola_model.specs.declared.expr.Expr.{Expr}
 use Rattle.lola_model.specs.declared.plan.Plan.{Plan}
@@ -34,7 +34,7 @@ guarded-right (Ok (Given (field.Int z))) s x y hx hy a e = ap (λ w. guarded w y
 guarded-right (Ok (Given (field.Text t))) s x y hx hy a e = ap (λ w. guarded w y) (hx (Given (field.Text t)) refl) ∙ is-ok Missing a e
 guarded-right (Ok (Given field.Absent)) s x y hx hy a e = ap (λ w. guarded w y) (hx (Given field.Absent) refl) ∙ is-ok Missing a e
 guarded-right (Ok Missing) s x y hx hy a e = ap (λ w. guarded w y) (hx Missing refl) ∙ is-ok Missing a e
-guarded-right (Ok (Failed k)) s x y hx hy a e = ap (λ w. guarded w y) (hx (Failed k) refl) ∙ is-ok (Failed k) a e
+guarded-right (Ok (Faulted k)) s x y hx hy a e = ap (λ w. guarded w y) (hx (Faulted k) refl) ∙ is-ok (Faulted k) a e
 guarded-right (Ok Poisoned) s x y hx hy a e = ap (λ w. guarded w y) (hx Poisoned refl) ∙ is-ok Poisoned a e
 
 spawn-guarded-right : (r : Try) (s : SpawnTry) (x : Answer) (y : Spawned) → Answers r x → Answers s y → Answers (then_spawn r s) (spawn_guarded x y)
@@ -45,7 +45,7 @@ spawn-guarded-right (Ok (Given (field.Int z))) s x y hx hy a e = ap (λ w. spawn
 spawn-guarded-right (Ok (Given (field.Text t))) s x y hx hy a e = ap (λ w. spawn_guarded w y) (hx (Given (field.Text t)) refl) ∙ is-ok Idle a e
 spawn-guarded-right (Ok (Given field.Absent)) s x y hx hy a e = ap (λ w. spawn_guarded w y) (hx (Given field.Absent) refl) ∙ is-ok Idle a e
 spawn-guarded-right (Ok Missing) s x y hx hy a e = ap (λ w. spawn_guarded w y) (hx Missing refl) ∙ is-ok Idle a e
-spawn-guarded-right (Ok (Failed k)) s x y hx hy a e = ap (λ w. spawn_guarded w y) (hx (Failed k) refl) ∙ is-ok (SpawnFailed k) a e
+spawn-guarded-right (Ok (Faulted k)) s x y hx hy a e = ap (λ w. spawn_guarded w y) (hx (Faulted k) refl) ∙ is-ok (SpawnFaulted k) a e
 spawn-guarded-right (Ok Poisoned) s x y hx hy a e = ap (λ w. spawn_guarded w y) (hx Poisoned refl) ∙ is-ok SpawnPoisoned a e
 
 -- what is known of living instances has their parameters and their number
@@ -69,7 +69,7 @@ module _ (rows : List TableRow) (time n : ℕ) (comes : Instance → Answer) whe
   known-length (x ∷ xs) (k ∷ ks) knows = let rest = known-length xs ks knows.1 in omega (arith, rest)
 
   abbrev named_if : Bool → ℕ → List Field → Spawned
-  named_if among many p = if not among && not (nat_lt many most_instances) then SpawnFailed fault.TooManyInstances else Named p
+  named_if among many p = if not among && not (nat_lt many most_instances) then SpawnFaulted fault.TooManyInstances else Named p
 
   naming-right : (r : Result (Result (List Field) Answer) Question) (x : Result (List Field) Answer) (xs : List Instance) (ks : List KnownLife) → KnowsLives rows time n comes xs ks
       → Answers r x → Answers (then_named r ks) (naming_outcome x xs)
@@ -80,7 +80,7 @@ module _ (rows : List TableRow) (time n : ℕ) (comes : Instance → Answer) whe
       ∙ ap (λ m. named_if (is_known_among p ks) m p) (sym (known-length xs ks knows)) ∙ is-ok (named_among p ks) a e
   naming-right (Ok (Err (Given v))) x xs ks knows hx a e = ap (λ z. naming_outcome z xs) (hx (Err (Given v)) refl) ∙ is-ok SpawnPoisoned a e
   naming-right (Ok (Err Missing)) x xs ks knows hx a e = ap (λ z. naming_outcome z xs) (hx (Err Missing) refl) ∙ is-ok Idle a e
-  naming-right (Ok (Err (Failed k))) x xs ks knows hx a e = ap (λ z. naming_outcome z xs) (hx (Err (Failed k)) refl) ∙ is-ok (SpawnFailed k) a e
+  naming-right (Ok (Err (Faulted k))) x xs ks knows hx a e = ap (λ z. naming_outcome z xs) (hx (Err (Faulted k)) refl) ∙ is-ok (SpawnFaulted k) a e
   naming-right (Ok (Err Poisoned)) x xs ks knows hx a e = ap (λ z. naming_outcome z xs) (hx (Err Poisoned) refl) ∙ is-ok SpawnPoisoned a e
 
 module _ (plan : Plan) (start : ℕ) (step : Step) (known : List KnownStream) (c : Content)

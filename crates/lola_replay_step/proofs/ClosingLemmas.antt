@@ -6,7 +6,7 @@ use Rattle.lola_value.specs.declared.text.Field.{Field}
 use Rattle.lola_value.specs.declared.text.Field.TheVariants as field
 use Rattle.lola_value.specs.declared.value.FaultKind.{FaultKind}
 use Rattle.lola_value.specs.Arithmetic.{all_equal}
-use Rattle.lola_value.specs.Answer.{Answer, Given, Missing, Failed, Poisoned}
+use Rattle.lola_value.specs.Answer.{Answer, Given, Missing, Faulted, Poisoned}
 use Rattle.lola_model.proofs.Orderly.{IsOneOf, all_exact, instance_self}
 use Rattle.lola_model.specs.Accesses.{answer_of}
 use Rattle.lola_model.specs.Activity.{is_active_for}
@@ -30,7 +30,7 @@ use Rattle.lola_replay_table.specs.Tries.{Try, read_at, read_in, window_at, wind
 use Rattle.lola_replay_table.specs.declared.question.Question.{Question}
 use Rattle.lola_replay_table.specs.declared.table.KnownLife.{KnownLife}
 use Rattle.lola_replay_table.specs.declared.table.KnownStream.{KnownStream}
-use Rattle.lola_replay_step.specs.Closings.{answer_in, closes_by, closes_to, failed_of, least_of}
+use Rattle.lola_replay_step.specs.Closings.{answer_in, closes_by, closes_to, faulted_of, least_of}
 use Rattle.lola_replay_step.proofs.AskLemmas.{Asks, known-asks, try-asks}
 use Rattle.lola_replay_step.proofs.ClauseLemmas.{close-right}
 use Rattle.lola_replay_step.proofs.OpenLemmas.{AsksOf, read-asks, window-asks}
@@ -130,7 +130,7 @@ module _ (closes : Instance → Answer) where
   -- and the least of its faults
   abbrev pub least_list : List Living → Option FaultKind
   least_list [] = None
-  least_list (l ∷ ls) = least_of (failed_of (closes l.instance)) (least_list ls)
+  least_list (l ∷ ls) = least_of (faulted_of (closes l.instance)) (least_list ls)
 
   not-among : (x : Instance) → closes_by (closes x) ≡ false → (ls : List Living) → is_closed (closed_list ls) x ≡ false
   not-among x miss [] = refl
@@ -178,13 +178,13 @@ added (Given (field.Int z)) i is = refl
 added (Given (field.Text t)) i is = refl
 added (Given field.Absent) i is = refl
 added Missing i is = refl
-added (Failed k) i is = refl
+added (Faulted k) i is = refl
 added Poisoned i is = refl
 
-added-fault : (a : Answer) (ks : List FaultKind) → least_kind (add_fault a ks) ≡ least_of (failed_of a) (least_kind ks)
+added-fault : (a : Answer) (ks : List FaultKind) → least_kind (add_fault a ks) ≡ least_of (faulted_of a) (least_kind ks)
 added-fault (Given v) ks = refl
 added-fault Missing ks = refl
-added-fault (Failed k) ks = refl
+added-fault (Faulted k) ks = refl
 added-fault Poisoned ks = refl
 
 module _ (plan : Plan) (start : ℕ) (rows : List TableRow) (step : Step) (n : ℕ) (s : Stream) (c : Content) where
@@ -210,8 +210,8 @@ module _ (plan : Plan) (start : ℕ) (rows : List TableRow) (step : Step) (n : �
     where
       go : (b : Bool) → least_kind (close_faults_among plan.spec c s.close (asked_to_close plan start rows step n ls)) ≡ least_list closing_of ls
           → least_kind (close_faults_among plan.spec c s.close (if b then l ∷ asked_to_close plan start rows step n ls else asked_to_close plan start rows step n ls))
-          ≡ least_of (failed_of (if b then close_answer plan.spec c s.close l.instance.params else Missing)) (least_list closing_of ls)
+          ≡ least_of (faulted_of (if b then close_answer plan.spec c s.close l.instance.params else Missing)) (least_list closing_of ls)
       go true e =
           added-fault (close_answer plan.spec c s.close l.instance.params) (close_faults_among plan.spec c s.close (asked_to_close plan start rows step n ls))
-          ∙ ap (least_of (failed_of (close_answer plan.spec c s.close l.instance.params))) e
+          ∙ ap (least_of (faulted_of (close_answer plan.spec c s.close l.instance.params))) e
       go false e = e

@@ -2,14 +2,14 @@
 use Rattle.std.proofs.Common.{◌≡◌, ◌∙◌, refl, sym, ap, ℕ, ◌+◌, List, [], ◌∷◌, Option, Some, None, Bool, true, false, ◌||◌, is_some}
 use Rattle.lola_value.specs.declared.value.FaultKind.{FaultKind}
 use Rattle.lola_value.specs.declared.value.FaultKind.TheVariants as fault
-use Rattle.lola_value.specs.Answer.{Answer, Given, Missing, Failed, Poisoned}
-use Rattle.lola_model.specs.Faults.{RowFault, add_failed, first_with, least_failed, lesser_kind, own_fault}
-use Rattle.lola_model.specs.Model.{has_evaluation_fault, has_failed, some_failed, spawn_has_failed}
-use Rattle.lola_model.specs.Table.{Spawned, Idle, Named, SpawnFailed, SpawnPoisoned, Living, StreamRow, TableRow}
+use Rattle.lola_value.specs.Answer.{Answer, Given, Missing, Faulted, Poisoned}
+use Rattle.lola_model.specs.Faults.{RowFault, add_faulted, first_with, least_faulted, lesser_kind, own_fault}
+use Rattle.lola_model.specs.Model.{has_evaluation_fault, has_faulted, some_faulted, spawn_has_faulted}
+use Rattle.lola_model.specs.Table.{Spawned, Idle, Named, SpawnFaulted, SpawnPoisoned, Living, StreamRow, TableRow}
 use Rattle.lola_replay_table.specs.declared.table.KeptSpawn.{KeptSpawn}
 use Rattle.lola_replay_table.specs.declared.table.KnownLife.{KnownLife}
 use Rattle.lola_replay_table.specs.declared.table.KnownStream.{KnownStream}
-use Rattle.lola_replay_step.specs.Closings.{failed_of, fault_or, least_of}
+use Rattle.lola_replay_step.specs.Closings.{faulted_of, fault_or, least_of}
 use Rattle.lola_replay_step.specs.StepFaults.{first_known, least_known, outcome_known, own_by, own_of}
 use Rattle.lola_replay_step.proofs.AllAnswered.{AnswersFrom, AnswersLives}
 
@@ -65,10 +65,10 @@ least-assoc (Some k) None c = refl
 least-assoc (Some k) (Some j) None = two k j
 least-assoc (Some k) (Some j) (Some i) = three k j i
 
-pub added-is : (a : Answer) (o : Option FaultKind) → add_failed a o ≡ least_of (failed_of a) o
+pub added-is : (a : Answer) (o : Option FaultKind) → add_faulted a o ≡ least_of (faulted_of a) o
 added-is (Given v) o = refl
 added-is Missing o = refl
-added-is (Failed k) o = refl
+added-is (Faulted k) o = refl
 added-is Poisoned o = refl
 
 pub fault-or-is : (n : ℕ) (o : Option FaultKind) (other : Option RowFault) → fault_or n o other ≡ (elim o [ None ↦ other | Some k ↦ Some (record { stream = n; kind = k }) ])
@@ -76,22 +76,22 @@ fault-or-is n None other = refl
 fault-or-is n (Some k) other = refl
 
 module _ (rows : List TableRow) (time n : ℕ) where
-  least-is : (best : Option FaultKind) (ls : List Living) (ks : List KnownLife) → AnswersLives rows time n ls ks → least_known best ks ≡ least_of best (least_failed ls)
+  least-is : (best : Option FaultKind) (ls : List Living) (ks : List KnownLife) → AnswersLives rows time n ls ks → least_known best ks ≡ least_of best (least_faulted ls)
   least-is best [] [] answers = sym (least-none best)
   least-is best [] (k ∷ ks) answers = absurd answers
   least-is best (l ∷ ls) [] answers = absurd answers
   least-is best (l ∷ ls) (k ∷ ks) answers =
-      let f = failed_of (outcome_known k.outcome) in
+      let f = faulted_of (outcome_known k.outcome) in
       let same : outcome_known k.outcome ≡ l.outcome = ap outcome_known answers.0.known ∙ sym answers.0.is in
       least-is (least_of best f) ls ks answers.1
-      ∙ least-assoc best f (least_failed ls)
-      ∙ ap (λ a. least_of best (least_of (failed_of a) (least_failed ls))) same
-      ∙ ap (least_of best) (sym (added-is l.outcome (least_failed ls)))
+      ∙ least-assoc best f (least_faulted ls)
+      ∙ ap (λ a. least_of best (least_of (faulted_of a) (least_faulted ls))) same
+      ∙ ap (least_of best) (sym (added-is l.outcome (least_faulted ls)))
 
-  own-is : (sp : Spawned) (o : Option FaultKind) → own_of sp o ≡ (elim sp [ Idle ↦ o | Named p ↦ o | SpawnFailed k ↦ Some k | SpawnPoisoned ↦ o ])
+  own-is : (sp : Spawned) (o : Option FaultKind) → own_of sp o ≡ (elim sp [ Idle ↦ o | Named p ↦ o | SpawnFaulted k ↦ Some k | SpawnPoisoned ↦ o ])
   own-is Idle o = refl
   own-is (Named p) o = refl
-  own-is (SpawnFailed k) o = refl
+  own-is (SpawnFaulted k) o = refl
   own-is SpawnPoisoned o = refl
 
 -- the first stream that has a fault of its spawn clause or of an instance
@@ -103,9 +103,9 @@ first-is rows time n (r ∷ rs) (k ∷ ks) answers =
     let a = answers.0 in
     let own : own_by k.spawned (least_known None k.lives) ≡ own_fault r =
     ap (λ o. own_by k.spawned o) (least-is rows time n None r.living k.lives a.lives)
-    ∙ ap (λ (o : Option KeptSpawn). own_by o (least_failed r.living)) a.known
-    ∙ ap (λ (sp : Spawned). own_of sp (least_failed r.living)) (sym a.is)
-    ∙ own-is rows time n r.spawned (least_failed r.living) in
+    ∙ ap (λ (o : Option KeptSpawn). own_by o (least_faulted r.living)) a.known
+    ∙ ap (λ (sp : Spawned). own_of sp (least_faulted r.living)) (sym a.is)
+    ∙ own-is rows time n r.spawned (least_faulted r.living) in
     ap (λ o. fault_or n o (first_known (n + 1) ks)) own
     ∙ ap (fault_or n (own_fault r)) (first-is rows time (n + 1) rs ks answers.1)
     ∙ fault-or-is n (own_fault r) (first_with own_fault (n + 1) rs)
@@ -116,15 +116,15 @@ some-lesser : (k : FaultKind) (o : Option FaultKind) → is_some (lesser_kind k 
 some-lesser k None = refl
 some-lesser k (Some j) = refl
 
-some-added : (a : Answer) (o : Option FaultKind) (b : Bool) → is_some o ≡ b → is_some (add_failed a o) ≡ (has_failed a || b)
+some-added : (a : Answer) (o : Option FaultKind) (b : Bool) → is_some o ≡ b → is_some (add_faulted a o) ≡ (has_faulted a || b)
 some-added (Given v) o b e = e
 some-added Missing o b e = e
-some-added (Failed k) o b e = some-lesser k o
+some-added (Faulted k) o b e = some-lesser k o
 some-added Poisoned o b e = e
 
-some-least : (ls : List Living) → is_some (least_failed ls) ≡ some_failed ls
+some-least : (ls : List Living) → is_some (least_faulted ls) ≡ some_faulted ls
 some-least [] = refl
-some-least (l ∷ ls) = some-added l.outcome (least_failed ls) (some_failed ls) (some-least ls)
+some-least (l ∷ ls) = some-added l.outcome (least_faulted ls) (some_faulted ls) (some-least ls)
 
 some-first : (f : StreamRow → Option FaultKind) (n : ℕ) (s : StreamRow) (ss : List StreamRow) → is_some (first_with f n (s ∷ ss)) ≡ (is_some (f s) || is_some (first_with f (n + 1) ss))
 some-first f n s ss = go (f s)
@@ -133,13 +133,13 @@ some-first f n s ss = go (f s)
     go None = refl
     go (Some k) = refl
 
-own-some : (s : StreamRow) → is_some (own_fault s) ≡ (spawn_has_failed s.spawned || some_failed s.living)
+own-some : (s : StreamRow) → is_some (own_fault s) ≡ (spawn_has_faulted s.spawned || some_faulted s.living)
 own-some s = go s.spawned
   where
-    go : (p : Spawned) → is_some (elim p [ Idle ↦ least_failed s.living | Named q ↦ least_failed s.living | SpawnFailed k ↦ Some k | SpawnPoisoned ↦ least_failed s.living ]) ≡ (spawn_has_failed p || some_failed s.living)
+    go : (p : Spawned) → is_some (elim p [ Idle ↦ least_faulted s.living | Named q ↦ least_faulted s.living | SpawnFaulted k ↦ Some k | SpawnPoisoned ↦ least_faulted s.living ]) ≡ (spawn_has_faulted p || some_faulted s.living)
     go Idle = some-least s.living
     go (Named q) = some-least s.living
-    go (SpawnFailed k) = refl
+    go (SpawnFaulted k) = refl
     go SpawnPoisoned = some-least s.living
 
 or-assoc : (a b c : Bool) → (a || b) || c ≡ a || (b || c)
@@ -151,5 +151,5 @@ some-evaluation n [] = refl
 some-evaluation n (s ∷ ss) =
     some-first own_fault n s ss
     ∙ (ap (λ b. b || is_some (first_with own_fault (n + 1) ss)) (own-some s)
-    ∙ (or-assoc (spawn_has_failed s.spawned) (some_failed s.living) (is_some (first_with own_fault (n + 1) ss))
-    ∙ ap (λ b. spawn_has_failed s.spawned || (some_failed s.living || b)) (some-evaluation (n + 1) ss)))
+    ∙ (or-assoc (spawn_has_faulted s.spawned) (some_faulted s.living) (is_some (first_with own_fault (n + 1) ss))
+    ∙ ap (λ b. spawn_has_faulted s.spawned || (some_faulted s.living || b)) (some-evaluation (n + 1) ss)))

@@ -4,7 +4,7 @@ use Rattle.std.specs.List.{AllByRecursion, Contains}
 use Rattle.std.proofs.lemmas.List.Elements.{Contains-append_right}
 use Rattle.lola_value.specs.declared.text.Field.{Field}
 use Rattle.lola_value.specs.declared.text.Field.TheVariants as field
-use Rattle.lola_value.specs.Answer.{Answer, Given, Missing, Failed, Poisoned}
+use Rattle.lola_value.specs.Answer.{Answer, Given, Missing, Faulted, Poisoned}
 use Rattle.lola_value.specs.Arithmetic.{all_equal}
 use Rattle.lola_model.specs.Activity.{is_active_for}
 use Rattle.lola_model.specs.Content.{is_bad}
@@ -115,7 +115,7 @@ guarded-asks P (Ok (Given (field.Int z))) s hr hs = known-asks P _
 guarded-asks P (Ok (Given (field.Text t))) s hr hs = known-asks P _
 guarded-asks P (Ok (Given field.Absent)) s hr hs = known-asks P _
 guarded-asks P (Ok Missing) s hr hs = known-asks P _
-guarded-asks P (Ok (Failed k)) s hr hs = known-asks P _
+guarded-asks P (Ok (Faulted k)) s hr hs = known-asks P _
 guarded-asks P (Ok Poisoned) s hr hs = known-asks P _
 
 same-question : (o q : Question) → (let r : Try = Err o in r) ≡ Err q → o ≡ q
@@ -132,7 +132,7 @@ spawn-asks P (Ok (Given (field.Int z))) s hr hs = known-asks P _
 spawn-asks P (Ok (Given (field.Text t))) s hr hs = known-asks P _
 spawn-asks P (Ok (Given field.Absent)) s hr hs = known-asks P _
 spawn-asks P (Ok Missing) s hr hs = known-asks P _
-spawn-asks P (Ok (Failed k)) s hr hs = known-asks P _
+spawn-asks P (Ok (Faulted k)) s hr hs = known-asks P _
 spawn-asks P (Ok Poisoned) s hr hs = known-asks P _
 
 named-asks : (P : Question → Type 0) (r : Result (Result (List Field) Answer) Question) (lives : List KnownLife) → Asks P r → Asks P (then_named r lives)

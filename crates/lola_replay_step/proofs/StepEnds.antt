@@ -35,7 +35,7 @@ use Rattle.lola_replay_table.specs.declared.question.Question.TheVariants.{Spawn
 use Rattle.lola_replay_table.specs.declared.table.KnownLife.{KnownLife}
 use Rattle.lola_replay_table.specs.declared.table.KnownStream.{KnownStream}
 use Rattle.lola_replay_step.specs.Agreements.{Knows, KnowsFrom, Solves}
-use Rattle.lola_replay_step.specs.Closings.{closed_from, closed_of, closes_by, closes_to, failed_of, fault_or, first_closing, least_closing, least_of}
+use Rattle.lola_replay_step.specs.Closings.{closed_from, closed_of, closes_by, closes_to, faulted_of, fault_or, first_closing, least_closing, least_of}
 use Rattle.lola_replay_step.specs.Rests.{AreBornIn, IsAnswered, IsFirst, IsPlaced, RestLives, Rests, RestsFrom, RestsLife, Judged, begun, fault_known, fresh_from, known_lines, life_lines, rested_all}
 use Rattle.lola_replay_step.specs.AnsweringOf.{AnswersAll}
 use Rattle.lola_replay_step.specs.StepFaults.{first_known, outcome_known, the_fault}
@@ -145,10 +145,10 @@ module _ (plan : Plan) (start : ℕ) (step : Step) (known : List KnownStream) wh
     least-closing n s best [] (k ∷ ks) answers = absurd answers
     least-closing n s best (l ∷ ls) [] answers = absurd answers
     least-closing n s best (l ∷ ls) (k ∷ ks) answers =
-        let f = failed_of (closes_to plan start step known n s k) in
+        let f = faulted_of (closes_to plan start step known n s k) in
         least-closing n s (least_of best f) ls ks answers.1
         ∙ least-assoc best f (least_list (closing-by n s) ls)
-        ∙ ap (λ a. least_of best (least_of (failed_of a) (least_list (closing-by n s) ls))) (closes-is n s l k answers.0)
+        ∙ ap (λ a. least_of best (least_of (faulted_of a) (least_list (closing-by n s) ls))) (closes-is n s l k answers.0)
 
     first-closing : (n : ℕ) (ss : List Stream) (rs : List StreamRow) (ks : List KnownStream) → length ss ≡ length rs → AnswersFrom rows step.time n rs ks
         → first_closing plan start step known n ss ks ≡ first_with (λ (s : StreamRow). least_kind s.close_faults) n (closes_from plan start rows open-row n ss rs)

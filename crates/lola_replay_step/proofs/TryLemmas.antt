@@ -3,7 +3,7 @@ use Rattle.std.proofs.Common.{◌≡◌, ◌∙◌, refl, ap, ℕ, List, ◌∷�
 use Rattle.lola_value.specs.declared.text.Field.{Field}
 use Rattle.lola_value.specs.declared.text.Field.TheVariants as field
 use Rattle.lola_value.specs.declared.value.Kind.{Kind}
-use Rattle.lola_value.specs.Answer.{Answer, Given, Missing, Failed, Poisoned}
+use Rattle.lola_value.specs.Answer.{Answer, Given, Missing, Faulted, Poisoned}
 use Rattle.lola_model.specs.Content.{Content}
 use Rattle.lola_model.specs.Accesses.{answer_of}
 use Rattle.lola_model.specs.Denotation.{and_then, chosen, defaulted, den, den_all, kind_of, negated, operated, window_of, with_argument, with_arguments, with_right}
@@ -29,14 +29,14 @@ pub value-right : (r : Try) (f : Field → Try) (x : Answer) (g : Field → Answ
 value-right (Err q) f x g hx hf a e = absurd (cc e)
 value-right (Ok (Given v)) f x g hx hf a e = ap (λ y. and_then y g) (hx (Given v) refl) ∙ hf v a e
 value-right (Ok Missing) f x g hx hf a e = ap (λ y. and_then y g) (hx Missing refl) ∙ is-ok Missing a e
-value-right (Ok (Failed k)) f x g hx hf a e = ap (λ y. and_then y g) (hx (Failed k) refl) ∙ is-ok (Failed k) a e
+value-right (Ok (Faulted k)) f x g hx hf a e = ap (λ y. and_then y g) (hx (Faulted k) refl) ∙ is-ok (Faulted k) a e
 value-right (Ok Poisoned) f x g hx hf a e = ap (λ y. and_then y g) (hx Poisoned refl) ∙ is-ok Poisoned a e
 
 pub default-right : (r s : Try) (x y : Answer) → Answers r x → Answers s y → Answers (then_default r s) (defaulted x y)
 default-right (Err q) s x y hx hy a e = absurd (cc e)
 default-right (Ok (Given v)) s x y hx hy a e = ap (λ z. defaulted z y) (hx (Given v) refl) ∙ is-ok (Given v) a e
 default-right (Ok Missing) s x y hx hy a e = ap (λ z. defaulted z y) (hx Missing refl) ∙ hy a e
-default-right (Ok (Failed k)) s x y hx hy a e = ap (λ z. defaulted z y) (hx (Failed k) refl) ∙ is-ok (Failed k) a e
+default-right (Ok (Faulted k)) s x y hx hy a e = ap (λ z. defaulted z y) (hx (Faulted k) refl) ∙ is-ok (Faulted k) a e
 default-right (Ok Poisoned) s x y hx hy a e = ap (λ z. defaulted z y) (hx Poisoned refl) ∙ is-ok Poisoned a e
 
 plain-right : (operator : Binary) (k : Kind) (v : Field) (s : Try) (y : Answer) → Answers s y → Answers (then_value s (λ w. Ok (operated operator k v w))) (and_then y (λ w. operated operator k v w))
@@ -79,7 +79,7 @@ argument-right (Ok (Given v)) (Err q) x xs hx hs a e = absurd (cc e)
 argument-right (Ok (Given v)) (Ok (Ok vs)) x xs hx hs a e = ap (λ y. with_argument y xs) (hx (Given v) refl) ∙ ap (with_argument (Given v)) (hs (Ok vs) refl) ∙ is-ok (Ok (v ∷ vs)) a e
 argument-right (Ok (Given v)) (Ok (Err b)) x xs hx hs a e = ap (λ y. with_argument y xs) (hx (Given v) refl) ∙ ap (with_argument (Given v)) (hs (Err b) refl) ∙ is-ok (Err b) a e
 argument-right (Ok Missing) rest x xs hx hs a e = ap (λ y. with_argument y xs) (hx Missing refl) ∙ is-ok (Err Missing) a e
-argument-right (Ok (Failed k)) rest x xs hx hs a e = ap (λ y. with_argument y xs) (hx (Failed k) refl) ∙ is-ok (Err (Failed k)) a e
+argument-right (Ok (Faulted k)) rest x xs hx hs a e = ap (λ y. with_argument y xs) (hx (Faulted k) refl) ∙ is-ok (Err (Faulted k)) a e
 argument-right (Ok Poisoned) rest x xs hx hs a e = ap (λ y. with_argument y xs) (hx Poisoned refl) ∙ is-ok (Err Poisoned) a e
 
 pub arguments-right : (r : Result (Result (List Field) Answer) Question) (f : List Field → Try) (xs : Result (List Field) Answer) (g : List Field → Answer)

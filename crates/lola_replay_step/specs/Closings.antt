@@ -2,7 +2,7 @@
 use Rattle.std.specs.Prelude.{ℕ, ◌+◌, List, [], ◌∷◌, ◌++◌, Option, Some, None, Bool, true, false, if◌then◌else◌, slice_get, Ok, Err}
 use Rattle.lola_value.specs.declared.text.Field.TheVariants as field
 use Rattle.lola_value.specs.declared.value.FaultKind.{FaultKind}
-use Rattle.lola_value.specs.Answer.{Answer, Given, Missing, Failed}
+use Rattle.lola_value.specs.Answer.{Answer, Given, Missing, Faulted}
 use Rattle.lola_model.specs.Activity.{is_active_for}
 use Rattle.lola_model.specs.Faults.{RowFault, lesser_kind}
 use Rattle.lola_model.specs.Model.{close_pacing}
@@ -27,9 +27,9 @@ closes_by (Given (field.Bool true)) = true
 closes_by a = false
 
 -- the kind of an outcome that is a fault
-abbrev pub failed_of : Answer → Option FaultKind
-failed_of (Failed k) = Some k
-failed_of a = None
+abbrev pub faulted_of : Answer → Option FaultKind
+faulted_of (Faulted k) = Some k
+faulted_of a = None
 
 -- the lesser of two kinds, where there are two
 abbrev pub least_of : Option FaultKind → Option FaultKind → Option FaultKind
@@ -64,7 +64,7 @@ module _ (plan : Plan) (start : ℕ) (step : Step) (known : List KnownStream) wh
   -- the least fault of their close conditions, or of others before
   abbrev pub least_closing : ℕ → Stream → Option FaultKind → List KnownLife → Option FaultKind
   least_closing n s least [] = least
-  least_closing n s least (l ∷ ls) = least_closing n s (least_of least (failed_of (closes_to n s l))) ls
+  least_closing n s least (l ∷ ls) = least_closing n s (least_of least (faulted_of (closes_to n s l))) ls
 
   -- the first stream from number n on that has one
   abbrev pub first_closing : ℕ → List Stream → List KnownStream → Option RowFault

@@ -3,9 +3,9 @@ use Rattle.std.specs.Prelude.{ℕ, ◌+◌, List, [], ◌∷◌, Option, Some, N
 use Rattle.lola_value.specs.declared.value.FaultKind.{FaultKind}
 use Rattle.lola_value.specs.Answer.{Answer, Missing}
 use Rattle.lola_model.specs.Faults.{RowFault}
-use Rattle.lola_model.specs.Table.{Spawned, Idle, Named, SpawnFailed, SpawnPoisoned}
+use Rattle.lola_model.specs.Table.{Spawned, Idle, Named, SpawnFaulted, SpawnPoisoned}
 use Rattle.lola_replay_table.specs.Answers.{kept_answer, kept_spawn}
-use Rattle.lola_replay_step.specs.Closings.{failed_of, fault_or, least_of}
+use Rattle.lola_replay_step.specs.Closings.{faulted_of, fault_or, least_of}
 use Rattle.lola_replay_table.specs.declared.answer.KeptAnswer.{KeptAnswer}
 use Rattle.lola_replay_table.specs.declared.table.KeptSpawn.{KeptSpawn}
 use Rattle.lola_replay_table.specs.declared.table.KnownLife.{KnownLife}
@@ -20,13 +20,13 @@ outcome_known (Some a) = kept_answer a
 -- the least fault of instances, or of others before
 abbrev pub least_known : Option FaultKind → List KnownLife → Option FaultKind
 least_known least [] = least
-least_known least (l ∷ ls) = least_known (least_of least (failed_of (outcome_known l.outcome))) ls
+least_known least (l ∷ ls) = least_known (least_of least (faulted_of (outcome_known l.outcome))) ls
 
 -- the fault of a spawn clause, or else another
 abbrev pub own_of : Spawned → Option FaultKind → Option FaultKind
 own_of Idle other = other
 own_of (Named p) other = other
-own_of (SpawnFailed k) other = Some k
+own_of (SpawnFaulted k) other = Some k
 own_of SpawnPoisoned other = other
 
 abbrev pub own_by : Option KeptSpawn → Option FaultKind → Option FaultKind

@@ -10,7 +10,7 @@ ghost use Rattle.lola_replay_table.specs.Open.{IsOpen};
 ghost use Rattle.lola_replay_table.specs.Scenes.{step_at};
 ghost use Rattle.lola_replay_table.specs.Tries.{Gives};
 ghost use Rattle.lola_replay_table.specs.declared.question.Question.{Question};
-ghost use Rattle.lola_replay_step.specs.Closings.{all_closed_at, close_at, closed_at, closes_at, closes_by, failed_of, first_closing_at, least_closing_at, least_of};
+ghost use Rattle.lola_replay_step.specs.Closings.{all_closed_at, close_at, closed_at, closes_at, closes_by, faulted_of, first_closing_at, least_closing_at, least_of};
 ghost use Rattle.lola_replay_step.specs.StepFaults.{the_fault};
 ghost use Rattle.std.specs.Option.{option_map};
 

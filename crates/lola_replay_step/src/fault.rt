@@ -4,7 +4,7 @@ ghost use Rattle.std.specs.Prelude.{◌≡◌, ◌≤◌, ◌+◌, None, length}
 ghost use Rattle.std.specs.Option.{option_map};
 ghost use Rattle.lola_model.specs.Faults.{code_of, lesser_kind};
 ghost use Rattle.lola_replay_table.specs.Answers.{the_answer};
-ghost use Rattle.lola_replay_step.specs.Closings.{failed_of, least_of};
+ghost use Rattle.lola_replay_step.specs.Closings.{faulted_of, least_of};
 ghost use Rattle.lola_replay_step.specs.StepFaults.{first_known, least_known, outcome_known, own_by, the_fault};
 
 use lola_replay_table::answer::{KeptAnswer, LentAnswer};
@@ -20,7 +20,7 @@ pub struct StepFault {
 
 /// The kind of an outcome that is a fault.
 pub fn kind_of(answer: LentAnswer) -> Option<FaultKind>
-    ensures { result ≡ failed_of (the_answer answer.entry) }
+    ensures { result ≡ faulted_of (the_answer answer.entry) }
 {
     match answer {
         LentAnswer::Fault(kind) => Some(kind),
@@ -69,7 +69,7 @@ pub fn lesser(first: Option<FaultKind>, second: Option<FaultKind>) -> Option<Fau
 
 // The kind of the fault of an instance, if it has one.
 fn failed(outcome: &Option<KeptAnswer>) -> Option<FaultKind>
-    ensures { result ≡ failed_of (outcome_known outcome.now) }
+    ensures { result ≡ faulted_of (outcome_known outcome.now) }
 {
     match outcome {
         Some(KeptAnswer::Fault(kind)) => Some(*kind),

@@ -2,13 +2,13 @@
 use Rattle.std.specs.Prelude.{ℤ, ◌+ℤ◌, ◌-ℤ◌, ◌*ℤ◌, int_div, int_rem, int_lt, int_le, Bool, false, not}
 use Rattle.lola_value.specs.declared.text.Field.{Field}
 use Rattle.lola_value.specs.declared.text.Field.TheVariants as field
-use Rattle.lola_value.specs.Answer.{Answer, Given, Missing, Failed, Poisoned}
+use Rattle.lola_value.specs.Answer.{Answer, Given, Missing, Faulted, Poisoned}
 use Rattle.lola_value.specs.Arithmetic.{divided, within}
 use Rattle.lola_value.specs.declared.value.Kind.{Kind}
 use Rattle.lola_model.specs.Denotation.{truth}
 use Rattle.lola_model.specs.declared.expr.Binary.{Binary}
 use Rattle.lola_model.specs.declared.expr.Binary.TheVariants as binary
-use Rattle.lola_model.specs.Table.{Spawned, Idle, Named, SpawnFailed, SpawnPoisoned}
+use Rattle.lola_model.specs.Table.{Spawned, Idle, Named, SpawnFaulted, SpawnPoisoned}
 use Rattle.lola_replay_table.specs.declared.answer.LentField.{LentField}
 use Rattle.lola_replay_table.specs.declared.answer.LentField.TheVariants as lent
 use Rattle.lola_replay_table.specs.declared.answer.LentAnswer.{LentAnswer}
@@ -29,21 +29,21 @@ the_field (lent.Text t) = field.Text t.now
 abbrev pub the_answer : LentAnswer → Answer
 the_answer (lent_answer.Given v) = Given (the_field v)
 the_answer lent_answer.Missing = Missing
-the_answer (lent_answer.Fault k) = Failed k
+the_answer (lent_answer.Fault k) = Faulted k
 the_answer lent_answer.Poisoned = Poisoned
 
 -- the outcome that is kept
 abbrev pub kept_answer : KeptAnswer → Answer
 kept_answer (kept.Given v) = Given v
 kept_answer kept.Missing = Missing
-kept_answer (kept.Fault k) = Failed k
+kept_answer (kept.Fault k) = Faulted k
 kept_answer kept.Poisoned = Poisoned
 
 -- what a spawn clause did
 abbrev pub kept_spawn : KeptSpawn → Spawned
 kept_spawn spawn.Idle = Idle
 kept_spawn (spawn.Named p) = Named p
-kept_spawn (spawn.Fault k) = SpawnFailed k
+kept_spawn (spawn.Fault k) = SpawnFaulted k
 kept_spawn spawn.Poisoned = SpawnPoisoned
 
 -- an operator between two numbers

@@ -3,12 +3,12 @@ use Rattle.std.specs.Prelude.{ℕ, ◌≡◌, List, [], ◌∷◌, Option, Some,
 use Rattle.lola_value.specs.declared.text.Field.{Field}
 use Rattle.lola_value.specs.declared.text.Field.TheVariants as field
 use Rattle.lola_value.specs.declared.value.FaultKind.TheVariants as fault
-use Rattle.lola_value.specs.Answer.{Answer, Given, Missing, Failed, Poisoned}
+use Rattle.lola_value.specs.Answer.{Answer, Given, Missing, Faulted, Poisoned}
 use Rattle.lola_value.specs.Arithmetic.{all_equal}
 use Rattle.lola_model.specs.Activity.{is_active, is_active_for}
 use Rattle.lola_model.specs.Content.{is_bad}
 use Rattle.lola_model.specs.Model.{eval_pacing, input_outcome, is_input, most_instances, spawn_pacing}
-use Rattle.lola_model.specs.Table.{Step, Spawned, Idle, Named, SpawnFailed, SpawnPoisoned}
+use Rattle.lola_model.specs.Table.{Step, Spawned, Idle, Named, SpawnFaulted, SpawnPoisoned}
 use Rattle.lola_model.specs.declared.expr.Expr.{Expr}
 use Rattle.lola_model.specs.declared.plan.Plan.{Plan}
 use Rattle.lola_model.specs.declared.spec.Clause.{Clause}
@@ -43,11 +43,11 @@ is_known_among p (l ∷ ls) = if all_equal p l.params then true else is_known_am
 -- what a spawn clause does that names these parameters, where these instances live
 abbrev pub named_among : List Field → List KnownLife → Spawned
 named_among p lives =
-    if not (is_known_among p lives) && not (nat_lt (length lives) most_instances) then SpawnFailed fault.TooManyInstances else Named p
+    if not (is_known_among p lives) && not (nat_lt (length lives) most_instances) then SpawnFaulted fault.TooManyInstances else Named p
 
 -- what it does where a parameter has no value
 abbrev pub named_none : Answer → Spawned
-named_none (Failed k) = SpawnFailed k
+named_none (Faulted k) = SpawnFaulted k
 named_none Missing = Idle
 named_none a = SpawnPoisoned
 
@@ -62,7 +62,7 @@ abbrev pub then_spawn : Try → SpawnTry → SpawnTry
 then_spawn (Ok (Given (field.Bool true))) s = s
 then_spawn (Ok (Given v)) s = Ok Idle
 then_spawn (Ok Missing) s = Ok Idle
-then_spawn (Ok (Failed k)) s = Ok (SpawnFailed k)
+then_spawn (Ok (Faulted k)) s = Ok (SpawnFaulted k)
 then_spawn (Ok Poisoned) s = Ok SpawnPoisoned
 then_spawn (Err q) s = Err q
 

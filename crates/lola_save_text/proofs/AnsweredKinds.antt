@@ -17,7 +17,7 @@ use Rattle.lola_model.specs.Graph.{nodes_of}
 use Rattle.lola_model.specs.Model.{filled_kind, is_input, input_outcome, field_outcome, eval_outcome, survivors, is_among, most_instances, newborn, spawned_in, unknown_spawned, outcome_of, stream_outcome, outcomes_from, evaluated, unknown_from, asked, closes_from, closing, has_evaluation_fault, answered, last_row, eval_pacing, spawn_pacing}
 use Rattle.lola_model.specs.Named.{count_with, has_kind, has_when, is_of_bool, is_input_shape, is_output_shape, is_trigger_shape, is_well_shaped}
 use Rattle.lola_model.specs.Store.{layouts_from}
-use Rattle.lola_model.specs.Table.{Step, Instance, Spawned, Idle, Named, SpawnFailed, SpawnPoisoned, StreamRow, TableRow}
+use Rattle.lola_model.specs.Table.{Step, Instance, Spawned, Idle, Named, SpawnFaulted, SpawnPoisoned, StreamRow, TableRow}
 use Rattle.lola_model.specs.Trace.{IsFieldOf, input_kinds}
 use Rattle.lola_model.specs.declared.plan.Plan.{Plan}
 use Rattle.lola_model.specs.declared.spec.Clause.{Clause}
@@ -84,7 +84,7 @@ newborn-is s (Named p) alive n h = by (not (is_among p alive) && nat_lt (length 
     by : (b : Bool) → AreInstancesOf s (if b then record { params = p; born = n } ∷ [] else [])
     by true = (h, tt)
     by false = tt
-newborn-is s (SpawnFailed k) alive n h = tt
+newborn-is s (SpawnFaulted k) alive n h = tt
 newborn-is s SpawnPoisoned alive n h = tt
 
 instances-join : (s : Stream) (xs ys : List Instance) → AreInstancesOf s xs → AreInstancesOf s ys → AreInstancesOf s (xs ++ ys)

@@ -6,7 +6,7 @@ use Rattle.std.proofs.lemmas.Bool.{and_from, or_from}
 use Rattle.std.proofs.lemmas.List.{length-drop, length-map}
 use Rattle.lola_value.specs.declared.text.Field.{Field}
 use Rattle.lola_value.specs.declared.value.Kind.{Kind}
-use Rattle.lola_value.specs.Answer.{Answer, Given, Missing, Failed, Poisoned}
+use Rattle.lola_value.specs.Answer.{Answer, Given, Missing, Faulted, Poisoned}
 use Rattle.lola_value.specs.Arithmetic.{all_equal}
 use Rattle.lola_model.specs.Content.{values_over, timed, outcome_in, time_of}
 use Rattle.lola_model.specs.Model.{filled_kind, survivors, last_row, the_instance}
@@ -43,7 +43,7 @@ AreTimesOf low high (v ∷ vs) = (low ≤ v.0) × (v.0 ≤ high) × AreTimesOf l
 one-time : (low high time : ℕ) (a : Answer) (vs : List (ℕ × Field)) → low ≤ time → time ≤ high → AreTimesOf low high vs → AreTimesOf low high (cons_option (timed time a) vs)
 one-time low high time (Given v) vs h g on = (h, g, on)
 one-time low high time Missing vs h g on = on
-one-time low high time (Failed f) vs h g on = on
+one-time low high time (Faulted f) vs h g on = on
 one-time low high time Poisoned vs h g on = on
 
 lower-times : (low mid high : ℕ) (vs : List (ℕ × Field)) → low ≤ mid → AreTimesOf mid high vs → AreTimesOf low high vs

@@ -7,14 +7,14 @@ use Rattle.lola_value.specs.declared.value.Kind.{Kind}
 use Rattle.lola_value.specs.declared.value.FaultKind.TheVariants as fault
 use Rattle.lola_value.specs.declared.text.Field.{Field}
 use Rattle.lola_value.specs.declared.text.Field.TheVariants as field
-use Rattle.lola_value.specs.Answer.{Answer, Given, Missing, Failed, Poisoned}
+use Rattle.lola_value.specs.Answer.{Answer, Given, Missing, Faulted, Poisoned}
 use Rattle.lola_model.specs.Content.{Content}
 use Rattle.lola_model.specs.Denotation.{den, with_argument}
 use Rattle.lola_model.specs.Model.{filled_kind, guarded, when_answer, first_answer, clause_answer, named_params, naming_outcome, spawn_guarded, spawn_outcome, eval_outcome, is_among, most_instances}
 use Rattle.lola_model.specs.Named.{IsNamed, all_numbers, count_with, has_clause, has_when, has_kind, is_of_bool, is_input_shape, is_output_shape, is_trigger_shape, is_well_shaped, literal_text}
 use Rattle.lola_model.specs.Parts.{listed, listed_clause, listed_spec, listed_stream, listed_when, listed_with}
 use Rattle.lola_model.specs.Store.{layouts_from}
-use Rattle.lola_model.specs.Table.{Instance, Spawned, Idle, Named, SpawnFailed, SpawnPoisoned}
+use Rattle.lola_model.specs.Table.{Instance, Spawned, Idle, Named, SpawnFaulted, SpawnPoisoned}
 use Rattle.lola_model.specs.Typed.{IsTyped, whole_is_typed}
 use Rattle.lola_model.specs.Typing.{noted}
 use Rattle.lola_model.specs.Wholes.{Whole, clause_wholes, condition_wholes, with_wholes, stream_wholes, wholes_of}
@@ -45,7 +45,7 @@ passes f (n ∷ ns) i h c =
 abbrev pub IsNaming : List Kind → Spawned → Type 0
 IsNaming ks Idle = Unit {0}
 IsNaming ks (Named p) = are_values ks p ≡ true
-IsNaming ks (SpawnFailed k) = Unit {0}
+IsNaming ks (SpawnFaulted k) = Unit {0}
 IsNaming ks SpawnPoisoned = Unit {0}
 
 abbrev AreNamed : List Kind → Result (List Field) Answer → Type 0
@@ -56,17 +56,17 @@ named-more : (k : Kind) (ks : List Kind) (a : Answer) (r : Result (List Field) A
 named-more k ks (Given v) (Ok p) h g = and_from _ _ h g
 named-more k ks (Given v) (Err a) h g = tt
 named-more k ks Missing r h g = tt
-named-more k ks (Failed f) r h g = tt
+named-more k ks (Faulted f) r h g = tt
 named-more k ks Poisoned r h g = tt
 
 -- what becomes of a spawn clause
 naming-is : (ks : List Kind) (r : Result (List Field) Answer) (alive : List Instance) → AreNamed ks r → IsNaming ks (naming_outcome r alive)
 naming-is ks (Ok p) alive h = by (not (is_among p alive) && not (nat_lt (length alive) most_instances))
   where
-    by : (b : Bool) → IsNaming ks (if b then SpawnFailed fault.TooManyInstances else Named p)
+    by : (b : Bool) → IsNaming ks (if b then SpawnFaulted fault.TooManyInstances else Named p)
     by true = tt
     by false = h
-naming-is ks (Err (Failed k)) alive h = tt
+naming-is ks (Err (Faulted k)) alive h = tt
 naming-is ks (Err Missing) alive h = tt
 naming-is ks (Err Poisoned) alive h = tt
 naming-is ks (Err (Given v)) alive h = tt
@@ -78,7 +78,7 @@ guarded-naming ks (Given (field.Int z)) s h = tt
 guarded-naming ks (Given (field.Text t)) s h = tt
 guarded-naming ks (Given field.Absent) s h = tt
 guarded-naming ks Missing s h = tt
-guarded-naming ks (Failed k) s h = tt
+guarded-naming ks (Faulted k) s h = tt
 guarded-naming ks Poisoned s h = tt
 
 -- and of an eval clause
@@ -89,7 +89,7 @@ guarded-is k (Given (field.Int z)) b h = refl
 guarded-is k (Given (field.Text t)) b h = refl
 guarded-is k (Given field.Absent) b h = refl
 guarded-is k Missing b h = refl
-guarded-is k (Failed f) b h = refl
+guarded-is k (Faulted f) b h = refl
 guarded-is k Poisoned b h = refl
 
 -- a spawn clause names as many parameters as its stream has

@@ -10,7 +10,7 @@ use Rattle.lola_model.specs.Content.{Content, content}
 use Rattle.lola_model.specs.Graph.{nodes_of}
 use Rattle.lola_model.specs.Model.{is_input, survivors, survivors_in, surviving, is_closed, is_among, most_instances, newborn, spawned_in, unknown_spawned, spawn_outcome, outcome_of, outcomes_from, unknown_from, asked, closed_among, asked_to_close, closes_from, closing, has_evaluation_fault, answered, last_row, the_instance, spawn_pacing}
 use Rattle.lola_model.specs.Named.{is_well_shaped}
-use Rattle.lola_model.specs.Table.{Step, Instance, Spawned, Idle, Named, SpawnFailed, SpawnPoisoned, Living, StreamRow, TableRow}
+use Rattle.lola_model.specs.Table.{Step, Instance, Spawned, Idle, Named, SpawnFaulted, SpawnPoisoned, Living, StreamRow, TableRow}
 use Rattle.lola_model.specs.declared.plan.Plan.{Plan}
 use Rattle.lola_model.specs.declared.spec.Clause.{Clause}
 use Rattle.lola_model.specs.declared.spec.Spec.{Spec}
@@ -131,7 +131,7 @@ module _ (s : Stream) (n : ℕ) (xs : List Instance) (h : IsCrowd s n xs) where
   -- with what a spawn clause did, which is nothing where there is none
   crowd-grows : (sp : Spawned) → (s.spawn ≡ None → sp ≡ Idle) → IsCrowd s (n + 1) (xs ++ newborn sp xs n)
   crowd-grows Idle idle = crowd-nil s n xs h
-  crowd-grows (SpawnFailed f) idle = crowd-nil s n xs h
+  crowd-grows (SpawnFaulted f) idle = crowd-nil s n xs h
   crowd-grows SpawnPoisoned idle = crowd-nil s n xs h
   crowd-grows (Named p) idle = by s.spawn refl
     where

@@ -4,7 +4,7 @@ use Rattle.std.specs.List.{cons_option}
 use Rattle.std.proofs.lemmas.List.{length-drop}
 use Rattle.lola_value.specs.declared.value.Kind.{Kind}
 use Rattle.lola_value.specs.declared.text.Field.{Field}
-use Rattle.lola_value.specs.Answer.{Answer, Given, Missing, Failed, Poisoned}
+use Rattle.lola_value.specs.Answer.{Answer, Given, Missing, Faulted, Poisoned}
 use Rattle.lola_model.specs.Content.{StreamContent, seen, outcome_among, outcome_in, timed, value_in, values_over, life_of, streams_from, content, is_bad}
 use Rattle.lola_model.specs.Model.{filled_kind, survivors, survivors_in, surviving, is_closed, last_row, the_instance}
 use Rattle.lola_model.specs.Store.{kind_in, layouts_from}
@@ -116,7 +116,7 @@ outcome-in s i (Some r) h = outcome-among s i r.living h.living
 one-value : (k : Kind) (time : ℕ) (a : Answer) (vs : List (ℕ × Field)) → is_answer k a ≡ true → AreOfKind k vs → AreOfKind k (cons_option (timed time a) vs)
 one-value k time (Given v) vs h g = (h, g)
 one-value k time Missing vs h g = g
-one-value k time (Failed f) vs h g = g
+one-value k time (Faulted f) vs h g = g
 one-value k time Poisoned vs h g = g
 
 module _ (ss : List Stream) (n : ℕ) (s : Stream) (at : slice_get ss n ≡ Some s) (i : Instance) where
@@ -151,7 +151,7 @@ values-since ss rows h n s at i = values-of ss n s at i (drop i.born rows) (tabl
 seen-is : (k : Kind) (a : Answer) → is_answer k a ≡ true → is_answer k (seen a) ≡ true
 seen-is k (Given v) h = h
 seen-is k Missing h = refl
-seen-is k (Failed f) h = refl
+seen-is k (Faulted f) h = refl
 seen-is k Poisoned h = refl
 
 lives-of : (ss : List Stream) (rows : List TableRow) (most time : ℕ) → IsTableOf ss rows → length rows ≤ most → (n : ℕ) (s : Stream) → slice_get ss n ≡ Some s → (ls : List Living) → AreLivingOf s ls

@@ -7,7 +7,7 @@ use Rattle.lola_value.specs.declared.value.Kind.TheVariants as kind
 use Rattle.lola_value.specs.declared.text.Field.{Field}
 use Rattle.lola_value.specs.declared.text.Field.TheVariants as field
 use Rattle.lola_value.specs.declared.value.FaultKind.TheVariants as fault
-use Rattle.lola_value.specs.Answer.{Answer, Given, Missing, Failed, Poisoned}
+use Rattle.lola_value.specs.Answer.{Answer, Given, Missing, Faulted, Poisoned}
 use Rattle.lola_value.specs.Arithmetic.{all_equal, is_within, within}
 use Rattle.lola_value.specs.Kinds.{is_integer}
 use Rattle.lola_model.specs.Accesses.{life_with, life_in, bad_in, value_or_missing, from_end, held, accessed, answer_of, one_more, all_values}
@@ -27,7 +27,7 @@ use Rattle.lola_save_text.proofs.Ranged.{AllIn, AreValues, numbers-in, least-in,
 abbrev pub is_answer : Kind → Answer → Bool
 is_answer k (Given v) = is_value k v
 is_answer k Missing = true
-is_answer k (Failed f) = true
+is_answer k (Faulted f) = true
 is_answer k Poisoned = true
 
 -- values, each with its time, are of a kind
@@ -67,7 +67,7 @@ from-end-of k vs i h = by (nat_le i (length vs))
 held-of : (k : Kind) (a : Answer) (vs : List (ℕ × Field)) → is_answer k a ≡ true → AreOfKind k vs → is_answer k (held a vs) ≡ true
 held-of k Missing vs h g = from-end-of k vs 1 g
 held-of k (Given v) vs h g = h
-held-of k (Failed f) vs h g = refl
+held-of k (Faulted f) vs h g = refl
 held-of k Poisoned vs h g = refl
 
 -- the life that is found, if one is
@@ -112,14 +112,14 @@ answer-of layouts most c h how n q =
 more-of : (k : Kind) (vs : List (ℕ × Field)) (t : ℕ) (a : Answer) → AreOfKind k vs → is_answer k a ≡ true → AreOfKind k (vs ++ one_more t a)
 more-of k [] t (Given v) h g = (g, tt)
 more-of k [] t Missing h g = tt
-more-of k [] t (Failed f) h g = tt
+more-of k [] t (Faulted f) h g = tt
 more-of k [] t Poisoned h g = tt
 more-of k (v ∷ vs) t a h g = (h.0, more-of k vs t a h.1 g)
 
 few-more : (t : ℕ) (a : Answer) → length (one_more t a) ≤ 1
 few-more t (Given v) = omega arith
 few-more t Missing = omega arith
-few-more t (Failed f) = omega arith
+few-more t (Faulted f) = omega arith
 few-more t Poisoned = omega arith
 
 within-of : (k : Kind) (over time : ℕ) (vs : List (ℕ × Field)) → AreOfKind k vs → AreValues k (values_within over time vs)
@@ -164,7 +164,7 @@ number-of-kind k z h g = and_from (is_integer k) (is_within k z) h g
 pub within-answer : (k : Kind) (z : ℤ) → is_integer k ≡ true → is_answer k (within k z) ≡ true
 within-answer k z h = by (is_within k z) refl
   where
-    by : (b : Bool) → is_within k z ≡ b → is_answer k (if b then Given (field.Int z) else Failed fault.Overflow) ≡ true
+    by : (b : Bool) → is_within k z ≡ b → is_answer k (if b then Given (field.Int z) else Faulted fault.Overflow) ≡ true
     by true e = number-of-kind k z h e
     by false e = refl
 

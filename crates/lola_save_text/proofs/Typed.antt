@@ -12,7 +12,7 @@ use Rattle.lola_value.specs.declared.value.Value.{Value}
 use Rattle.lola_value.specs.declared.value.Value.TheVariants as value
 use Rattle.lola_value.specs.declared.text.Field.{Field}
 use Rattle.lola_value.specs.declared.text.Field.TheVariants as field
-use Rattle.lola_value.specs.Answer.{Answer, Given, Missing, Failed, Poisoned}
+use Rattle.lola_value.specs.Answer.{Answer, Given, Missing, Faulted, Poisoned}
 use Rattle.lola_value.specs.Arithmetic.{divided, fields_equal, is_zero, within}
 use Rattle.lola_value.specs.Kinds.{is_bool, is_integer, is_of_kind, is_signed, is_text}
 use Rattle.lola_value.specs.Naming.{the_text}
@@ -82,7 +82,7 @@ truth-is k b h = is-bool k h
 and-then-is : (k : Kind) (a : Answer) (f : Field → Answer) → ((v : Field) → is_answer k (f v) ≡ true) → is_answer k (and_then a f) ≡ true
 and-then-is k (Given v) f h = h v
 and-then-is k Missing f h = refl
-and-then-is k (Failed e) f h = refl
+and-then-is k (Faulted e) f h = refl
 and-then-is k Poisoned f h = refl
 
 numbers-is : (k : Kind) (f : ℤ → ℤ → Answer) → ((a b : ℤ) → is_answer k (f a b) ≡ true) → (x y : Field) → is_answer k (on_numbers f x y) ≡ true
@@ -97,7 +97,7 @@ numbers-is k f h field.Absent y = refl
 divided-is : (k : Kind) (z by : ℤ) → is_integer k ≡ true → is_answer k (divided k z by) ≡ true
 divided-is k z by h = cases (is_zero by)
   where
-    cases : (b : Bool) → is_answer k (if b then Failed fault.DivZero else within k z) ≡ true
+    cases : (b : Bool) → is_answer k (if b then Faulted fault.DivZero else within k z) ≡ true
     cases true = refl
     cases false = within-answer k z h
 
@@ -152,7 +152,7 @@ joined-is binary.Or k a b r x y h =
 defaulted-is : (k : Kind) (a b : Answer) → is_answer k a ≡ true → is_answer k b ≡ true → is_answer k (defaulted a b) ≡ true
 defaulted-is k Missing b h g = g
 defaulted-is k (Given v) b h g = h
-defaulted-is k (Failed f) b h g = refl
+defaulted-is k (Faulted f) b h g = refl
 defaulted-is k Poisoned b h g = refl
 
 chosen-is : (k : Kind) (v : Field) (a b : Answer) → is_answer k a ≡ true → is_answer k b ≡ true → is_answer k (chosen v a b) ≡ true
@@ -171,7 +171,7 @@ argument-error : (k : Kind) (a : Answer) (r : Result (List Field) Answer) → Is
 argument-error k (Given v) (Ok vs) h = tt
 argument-error k (Given v) (Err a) h = h
 argument-error k Missing r h = refl
-argument-error k (Failed f) r h = refl
+argument-error k (Faulted f) r h = refl
 argument-error k Poisoned r h = refl
 
 arguments-is : (k : Kind) (r : Result (List Field) Answer) (f : List Field → Answer) → IsError k r → ((q : List Field) → is_answer k (f q) ≡ true) → is_answer k (with_arguments r f) ≡ true

@@ -1,7 +1,7 @@
 -- The values of each life of a journal are such as a restored store wants.
 use Rattle.std.proofs.Common.{◌≡◌, ℕ, ◌≤◌, List, [], ◌∷◌, drop, refl, arith, true, Some, slice_get}
 use Rattle.std.specs.List.{AllByRecursion, cons_option}
-use Rattle.lola_value.specs.Answer.{Answer, Given, Missing, Failed, Poisoned}
+use Rattle.lola_value.specs.Answer.{Answer, Given, Missing, Faulted, Poisoned}
 use Rattle.lola_value.specs.declared.text.Field.{Field}
 use Rattle.lola_value.specs.declared.value.Kind.{Kind}
 use Rattle.lola_model.specs.Content.{outcome_in, timed, values_over}
@@ -32,7 +32,7 @@ later low mid (v ∷ vs) le h = ((let a = h.0 in omega (arith, a, le)), later lo
 one-since : (low time : ℕ) (a : Answer) (vs : List (ℕ × Field)) → low ≤ time → AllFrom time vs → AllFrom low (cons_option (timed time a) vs)
 one-since low time (Given v) vs le h = (le, later low time vs le h)
 one-since low time Missing vs le h = later low time vs le h
-one-since low time (Failed f) vs le h = later low time vs le h
+one-since low time (Faulted f) vs le h = later low time vs le h
 one-since low time Poisoned vs le h = later low time vs le h
 
 all-since : (n : ℕ) (i : Instance) (low : ℕ) (rows : List TableRow) → AreTimed low rows → AllFrom low (values_over n i rows)
@@ -43,7 +43,7 @@ all-since n i low (row ∷ rows) h =
 one-in-order : (time : ℕ) (a : Answer) (vs : List (ℕ × Field)) → AllFrom time vs → InOrder vs → InOrder (cons_option (timed time a) vs)
 one-in-order time (Given v) vs since h = (since, h)
 one-in-order time Missing vs since h = h
-one-in-order time (Failed f) vs since h = h
+one-in-order time (Faulted f) vs since h = h
 one-in-order time Poisoned vs since h = h
 
 in-order : (n : ℕ) (i : Instance) (low : ℕ) (rows : List TableRow) → AreTimed low rows → InOrder (values_over n i rows)

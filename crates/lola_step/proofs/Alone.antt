@@ -8,7 +8,7 @@ use Rattle.lola_value.specs.declared.value.FaultKind.{FaultKind}
 use Rattle.lola_value.specs.declared.value.Outcome.{Outcome}
 use Rattle.lola_model.specs.Content.{Content}
 use Rattle.lola_model.specs.Denotation.{truth}
-use Rattle.lola_model.specs.Faults.{add_failed}
+use Rattle.lola_model.specs.Faults.{add_faulted}
 use Rattle.lola_model.specs.Model.{when_answer}
 use Rattle.lola_model.specs.NextStep.{is_local}
 use Rattle.lola_model.specs.Store.{Memories, Seen, SeenInstance, instances_seen, layout_of}
@@ -53,7 +53,7 @@ module _ (plan : Plan) (m : Moment) (p : Option Pacing) (k : Clause) (n : ℕ) (
 
   -- what adds nothing
   pub record IsIdle (a : Answer) : Type 0 where
-    pub no_fault : (rest : Option FaultKind) → add_failed a rest ≡ rest
+    pub no_fault : (rest : Option FaultKind) → add_faulted a rest ≡ rest
     pub no_place : (i : ℕ) (rest : List Place) → add_place a n i rest ≡ rest
 
   idle_false : (x : SeenInstance) → when_answer plan.spec c (read_params names x.params) k.when ≡ truth false → IsIdle (condition x)
@@ -66,9 +66,9 @@ module _ (plan : Plan) (m : Moment) (p : Option Pacing) (k : Clause) (n : ℕ) (
   abbrev AllIdle : List SeenInstance → Type 0
   AllIdle xs = (i : ℕ) (x : SeenInstance) → slice_get xs i ≡ Some x → IsIdle (condition x)
 
-  none_failed : (xs : List SeenInstance) → AllIdle xs → least_condition plan names c m p (Some k) xs ≡ None
-  none_failed [] h = refl
-  none_failed (x ∷ xs) h = (h zero x refl).no_fault (least_condition plan names c m p (Some k) xs) ∙ none_failed xs (λ i y e. h (suc i) y e)
+  none_faulted : (xs : List SeenInstance) → AllIdle xs → least_condition plan names c m p (Some k) xs ≡ None
+  none_faulted [] h = refl
+  none_faulted (x ∷ xs) h = (h zero x refl).no_fault (least_condition plan names c m p (Some k) xs) ∙ none_faulted xs (λ i y e. h (suc i) y e)
 
   none_true : (i : ℕ) (xs : List SeenInstance) → AllIdle xs → places_true plan names c m p (Some k) n i xs ≡ []
   none_true i [] h = refl
@@ -84,13 +84,13 @@ module _ (plan : Plan) (m : Moment) (p : Option Pacing) (k : Clause) (n : ℕ) (
   rest_idle : (x : SeenInstance) (xs : List SeenInstance) → OthersIdle 0 (x ∷ xs) → AllIdle xs
   rest_idle x xs h = λ i y e. h (suc i) y e (λ q. omega (arith, q))
 
-  one_failed : (d : ℕ) (x : SeenInstance) (xs : List SeenInstance) → slice_get xs d ≡ Some x → OthersIdle d xs → least_condition plan names c m p (Some k) xs ≡ add_failed (condition x) None
-  one_failed d x [] e h = absurd (cc)
-  one_failed zero x (y ∷ xs) e h =
+  one_faulted : (d : ℕ) (x : SeenInstance) (xs : List SeenInstance) → slice_get xs d ≡ Some x → OthersIdle d xs → least_condition plan names c m p (Some k) xs ≡ add_faulted (condition x) None
+  one_faulted d x [] e h = absurd (cc)
+  one_faulted zero x (y ∷ xs) e h =
       let q : y ≡ x = cc in
-      ap (add_failed (condition y)) (none_failed xs (rest_idle y xs h)) ∙ ap (λ z. add_failed (condition z) None) q
-  one_failed (suc d) x (y ∷ xs) e h =
-      (h zero y refl (λ q. omega (arith, q))).no_fault (least_condition plan names c m p (Some k) xs) ∙ one_failed d x xs e (later_idle d y xs h)
+      ap (add_faulted (condition y)) (none_faulted xs (rest_idle y xs h)) ∙ ap (λ z. add_faulted (condition z) None) q
+  one_faulted (suc d) x (y ∷ xs) e h =
+      (h zero y refl (λ q. omega (arith, q))).no_fault (least_condition plan names c m p (Some k) xs) ∙ one_faulted d x xs e (later_idle d y xs h)
 
   one_true : (d i j : ℕ) (x : SeenInstance) (xs : List SeenInstance) → slice_get xs d ≡ Some x → OthersIdle d xs → j ≡ i + d → places_true plan names c m p (Some k) n i xs ≡ add_place (condition x) n j []
   one_true d i j x [] e h f = absurd (cc)
@@ -108,7 +108,7 @@ module _ (plan : Plan) (m : Moment) (p : Option Pacing) (remembers : Memories) (
       → FindsAmong plan m p remembers s (Some k) n None ts ts
   found_none w out alone ts names c shown =
       let idle = λ (i : ℕ) (x : SeenInstance) (e : slice_get (instances_seen s n) i ≡ Some x). idle_false plan m p k n names c x (alone names c shown i x e (out i (there (instances_seen s n) i x e))) in (
-        sym (none_failed plan m p k n names c (instances_seen s n) idle),
+        sym (none_faulted plan m p k n names c (instances_seen s n) idle),
         sym (append-nil (places_of ts)) ∙ ap (λ (ps : List Place). places_of ts ++ ps) (sym (none_true plan m p k n names c 0 (instances_seen s n) idle)),
       )
     where
@@ -129,7 +129,7 @@ module _ (plan : Plan) (m : Moment) (p : Option Pacing) (remembers : Memories) (
       let answer : read_outcome names o ≡ condition_of plan names c m p (Some k) x.at = (h names c sees shown.texts).0 in
       let t : Task = record { stream = n; index = j } in
       let idle = λ (i : ℕ) (y : SeenInstance) (at : slice_get (instances_seen s n) i ≡ Some y) (ne : i ≡ j → ⊥). idle_false plan m p k n names c y (alone names c shown i y at (other j i ne)) in (
-        e ∙ (same_kind names o None ∙ (ap (λ a. add_failed a None) answer ∙ sym (one_failed plan m p k n names c j x.at (instances_seen s n) x.is idle))),
+        e ∙ (same_kind names o None ∙ (ap (λ a. add_faulted a None) answer ∙ sym (one_faulted plan m p k n names c j x.at (instances_seen s n) x.is idle))),
         ap places_of f
             ∙ (map-append place_of_task old (closed_by o t)
             ∙ ap (λ (ps : List Place). places_of old ++ ps)

@@ -8,7 +8,7 @@ use Rattle.lola_value.specs.declared.value.FaultKind.{FaultKind}
 use Rattle.lola_value.specs.declared.value.Outcome.{Outcome}
 use Rattle.lola_model.specs.Content.{Content}
 use Rattle.lola_model.specs.Dues.{due_from, due_places, is_due, locals_of}
-use Rattle.lola_model.specs.Faults.{add_failed}
+use Rattle.lola_model.specs.Faults.{add_faulted}
 use Rattle.lola_model.specs.NextStep.{is_local}
 use Rattle.lola_model.specs.Store.{Memories, Seen, SeenInstance, instances_seen, layout_of, spawns_in}
 use Rattle.lola_model.specs.declared.pacing.Pacing.{Pacing}
@@ -128,7 +128,7 @@ module _ (plan : Plan) (m : Moment) (p : Option Pacing) (remembers : Memories) (
     -- the least kind of a fault among those at places
     abbrev least_at : List ℕ → Option FaultKind
     least_at [] = None
-    least_at (j ∷ js) = add_failed (condition_at j) (least_at js)
+    least_at (j ∷ js) = add_faulted (condition_at j) (least_at js)
 
     -- the places at which they are true
     abbrev places_at : List ℕ → List Place
@@ -145,13 +145,13 @@ module _ (plan : Plan) (m : Moment) (p : Option Pacing) (remembers : Memories) (
       one_more true i x xs js due at h =
           let here : condition_at i ≡ condition_of plan names c m p k x =
           ap (λ (o : Option SeenInstance). closing_answer plan.spec (active_for_in m (birth_at o) p) k c (read_params names (params_at o))) at in (
-            ap (λ a. add_failed a (least_at js)) here ∙ ap (add_failed (condition_of plan names c m p k x)) h.0,
+            ap (λ a. add_faulted a (least_at js)) here ∙ ap (add_faulted (condition_of plan names c m p k x)) h.0,
             ap (λ a. add_place a n i (places_at js)) here ∙ ap (add_place (condition_of plan names c m p k x) n i) h.1,
           )
       one_more false i x xs js due at h =
           let none : condition_of plan names c m p k x ≡ Missing =
           ap (λ b. closing_answer plan.spec b k c (read_params names x.params)) (inactive m x.born p rates local listed due) in (
-            h.0 ∙ sym (ap (λ a. add_failed a (least_condition plan names c m p k xs)) none),
+            h.0 ∙ sym (ap (λ a. add_faulted a (least_condition plan names c m p k xs)) none),
             h.1 ∙ sym (ap (λ a. add_place a n i (places_true plan names c m p k n (i + 1) xs)) none),
           )
 
@@ -168,7 +168,7 @@ module _ (plan : Plan) (m : Moment) (p : Option Pacing) (remembers : Memories) (
           let rest : Option FaultKind = least_at (drop (a + 1) js) in
           ap (λ f. least_of f rest) e
           ∙ (outcome_moves o least rest
-          ∙ (ap (least_of least) (same_kind names o rest ∙ ap (λ r. add_failed r rest) answer)
+          ∙ (ap (least_of least) (same_kind names o rest ∙ ap (λ r. add_faulted r rest) answer)
           ∙ (ap (λ ys. least_of least (least_at ys)) (sym (cut js a j at))
           ∙ so_far)))
 

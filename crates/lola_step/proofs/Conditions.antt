@@ -5,11 +5,11 @@ use Rattle.lola_value.specs.declared.value.FaultKind.{FaultKind}
 use Rattle.lola_value.specs.declared.value.Outcome.{Outcome}
 use Rattle.lola_value.specs.declared.value.Outcome.TheVariants as outcome
 use Rattle.lola_value.specs.declared.value.Value.TheVariants as value
-use Rattle.lola_value.specs.Answer.{Answer, Given, Missing, Failed, Poisoned}
+use Rattle.lola_value.specs.Answer.{Answer, Given, Missing, Faulted, Poisoned}
 use Rattle.lola_value.specs.Naming.{Naming, read_outcome, read_params, text_at, the_text}
 use Rattle.lola_model.specs.Acceptance.{IsAccepted}
 use Rattle.lola_model.specs.Content.{Content, Life, content, life_of, time_of}
-use Rattle.lola_model.specs.Faults.{RowFault, add_failed, least_kind}
+use Rattle.lola_model.specs.Faults.{RowFault, add_faulted, least_kind}
 use Rattle.lola_model.specs.Model.{add_fault, asked_to_close, close_answer, close_faults_among, close_pacing, is_closing_for}
 use Rattle.lola_model.specs.NextStep.{is_local}
 use Rattle.lola_model.specs.Store.{Memories, Seen, SeenInstance, Stands, StandForLives, instances_seen, layout_of}
@@ -65,7 +65,7 @@ module _ (names : Naming) where
         let rest : Option FaultKind = least_condition plan names c m p k (drop (i + 1) xs) in
         ap (λ f. least_of f rest) e
         ∙ (outcome_moves o least rest
-        ∙ (ap (least_of least) (same_kind names o rest ∙ ap (λ a. add_failed a rest) answer)
+        ∙ (ap (least_of least) (same_kind names o rest ∙ ap (λ a. add_faulted a rest) answer)
         ∙ (ap (λ ys. least_of least (least_condition plan names c m p k ys)) (sym (cut xs i x at))
         ∙ so_far)))
 
@@ -125,7 +125,7 @@ module _ (plan : Plan) (m : Moment) (remembers : Memories) (s : Seen) (n : ℕ) 
   module _ (p : Option Pacing) (k : Option Clause) (ts : List Task) (never : (names : Naming) (c : Content) (x : SeenInstance) → condition_of plan names c m p k x ≡ Missing) where
     no_condition : (names : Naming) (c : Content) (xs : List SeenInstance) → least_condition plan names c m p k xs ≡ None
     no_condition names c [] = refl
-    no_condition names c (x ∷ xs) = ap (λ a. add_failed a (least_condition plan names c m p k xs)) (never names c x) ∙ no_condition names c xs
+    no_condition names c (x ∷ xs) = ap (λ a. add_faulted a (least_condition plan names c m p k xs)) (never names c x) ∙ no_condition names c xs
 
     no_place : (names : Naming) (c : Content) (i : ℕ) (xs : List SeenInstance) → places_true plan names c m p k n i xs ≡ []
     no_place names c i [] = refl
@@ -205,15 +205,15 @@ module _ (plan : Plan) (m : Moment) (remembers : Memories) (s : Seen) where
 
 -- over a row
 
-kinds_counted : (a : Answer) (ks : List FaultKind) → least_kind (add_fault a ks) ≡ add_failed a (least_kind ks)
-kinds_counted (Failed k) ks = refl
+kinds_counted : (a : Answer) (ks : List FaultKind) → least_kind (add_fault a ks) ≡ add_faulted a (least_kind ks)
+kinds_counted (Faulted k) ks = refl
 kinds_counted (Given v) ks = refl
 kinds_counted Missing ks = refl
 kinds_counted Poisoned ks = refl
 
-failed_if : (b : Bool) (a : Answer) (ks : Option FaultKind) → add_failed (if b then a else Missing) ks ≡ (if b then add_failed a ks else ks)
-failed_if true a ks = refl
-failed_if false a ks = refl
+faulted_if : (b : Bool) (a : Answer) (ks : Option FaultKind) → add_faulted (if b then a else Missing) ks ≡ (if b then add_faulted a ks else ks)
+faulted_if true a ks = refl
+faulted_if false a ks = refl
 
 place_if : (b : Bool) (a : Answer) (n i : ℕ) (rest : List Place) → add_place (if b then a else Missing) n i rest ≡ (if b then add_place a n i rest else rest)
 place_if true a n i rest = refl
@@ -237,7 +237,7 @@ module _ (plan : Plan) (names : Naming) (remembers : Memories) (c : Content) (m 
   born_later x xs l ls born local = let e = born local in cc
 
   counted : (b : Bool) (l : Living) (ls : List Living)
-      → (if b then add_failed (close_answer plan.spec c k l.instance.params) (least_kind (close_faults_among plan.spec c k ls)) else least_kind (close_faults_among plan.spec c k ls))
+      → (if b then add_faulted (close_answer plan.spec c k l.instance.params) (least_kind (close_faults_among plan.spec c k ls)) else least_kind (close_faults_among plan.spec c k ls))
       ≡ least_kind (close_faults_among plan.spec c k (if b then l ∷ ls else ls))
   counted true l ls = sym (kinds_counted (close_answer plan.spec c k l.instance.params) (close_faults_among plan.spec c k ls))
   counted false l ls = refl
@@ -256,9 +256,9 @@ module _ (plan : Plan) (names : Naming) (remembers : Memories) (c : Content) (m 
   least_is i (x ∷ xs) [] h born = absurd h
   least_is i (x ∷ xs) (l ∷ ls) h born =
       let b = is_closing_for plan m.start rows step n l.instance in
-      ap (λ a. add_failed a (least_condition plan names c m paced k xs)) (same_condition i x xs l ls h.0.params born)
-      ∙ (failed_if b (close_answer plan.spec c k l.instance.params) (least_condition plan names c m paced k xs)
-      ∙ (ap (λ ks. if b then add_failed (close_answer plan.spec c k l.instance.params) ks else ks) (least_is (i + 1) xs ls h.1 (born_later x xs l ls born))
+      ap (λ a. add_faulted a (least_condition plan names c m paced k xs)) (same_condition i x xs l ls h.0.params born)
+      ∙ (faulted_if b (close_answer plan.spec c k l.instance.params) (least_condition plan names c m paced k xs)
+      ∙ (ap (λ ks. if b then add_faulted (close_answer plan.spec c k l.instance.params) ks else ks) (least_is (i + 1) xs ls h.1 (born_later x xs l ls born))
       ∙ counted b l (asked ls)))
 
   places_are : (i : ℕ) (xs : List SeenInstance) (ls : List Living) → StandForLives names remembers n i xs (map (life_of rows step.time n) ls) → BornAs xs ls

@@ -51,11 +51,11 @@ same_step_values plan show spans spans' tasks tasks' results results' remembers 
 
 module _ (plan : Plan) (m : Moment) (spawn_results : List SpawnResult) (spans : List Span) (tasks : List Task) (results : List Outcome) where
   -- by the fault of a spawn clause or of an instance
-  pub fails_by_evaluation : (stream : ℕ) (kind : FaultKind) → FindsFault plan spawn_results spans tasks results (Some (stream, kind))
+  pub faults_by_evaluation : (stream : ℕ) (kind : FaultKind) → FindsFault plan spawn_results spans tasks results (Some (stream, kind))
       → (names : Naming) (rows : List TableRow) (step : Step) → IsRun plan names rows
       → AreNoted plan (full_row plan m.start rows step).streams names spawn_results spans tasks results
       → IsFaulty plan m.start rows step stream kind
-  fails_by_evaluation stream kind finds names rows step run noted =
+  faults_by_evaluation stream kind finds names rows step run noted =
       (each_step_ends plan m.start rows step).evaluation (record { stream = stream; kind = kind }) (sym (finds names m.start rows step run noted))
 
   module _ (remembers : Memories) (s : Seen) (none : FindsFault plan spawn_results spans tasks results None) where

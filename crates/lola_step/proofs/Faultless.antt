@@ -6,7 +6,7 @@ use Rattle.std.proofs.lemmas.Option.{get_or_from_slice_get, slice_get_within}
 use Rattle.lola_value.specs.declared.value.FaultKind.{FaultKind}
 use Rattle.lola_value.specs.declared.value.Outcome.{Outcome}
 use Rattle.lola_value.specs.declared.value.Outcome.TheVariants as outcome
-use Rattle.lola_step.specs.Found.{NoneFailed, add_fault, fault_of, fault_or, first_among, has_fault, is_failed, is_fault, least_among}
+use Rattle.lola_step.specs.Found.{NoneFaulted, add_fault, fault_of, fault_or, first_among, has_fault, is_faulted, is_fault, least_among}
 use Rattle.lola_step.specs.Notes.{in_span}
 use Rattle.lola_step.specs.declared.spawn_result.SpawnResult.{SpawnResult}
 use Rattle.lola_step.specs.declared.spawn_result.SpawnResult.TheVariants as spawn_result
@@ -76,30 +76,30 @@ none_least (o ∷ os) e =
 
 -- spawn results
 
-pub fine_first : (spawn_results : List SpawnResult) → spawn_results ≡ replicate (length spawn_results) spawn_result.Fine → NoneFailed spawn_results
+pub fine_first : (spawn_results : List SpawnResult) → spawn_results ≡ replicate (length spawn_results) spawn_result.Fine → NoneFaulted spawn_results
 fine_first spawn_results e n k at =
     let within : n < length spawn_results = slice_get_within spawn_results n k at in
     let fine : get_or spawn_results n spawn_result.Fine ≡ spawn_result.Fine = ap (λ ms. get_or ms n spawn_result.Fine) e ∙ get_or-replicate (length spawn_results) n spawn_result.Fine spawn_result.Fine within in
-    ap is_failed (sym (get_or_from_slice_get spawn_results n k spawn_result.Fine at) ∙ fine)
+    ap is_faulted (sym (get_or_from_slice_get spawn_results n k spawn_result.Fine at) ∙ fine)
 
-pub fine_next : (spawn_results : List SpawnResult) (n : ℕ) (m : SpawnResult) → n < length spawn_results → is_failed m ≡ false → NoneFailed spawn_results → NoneFailed (set spawn_results n m)
+pub fine_next : (spawn_results : List SpawnResult) (n : ℕ) (m : SpawnResult) → n < length spawn_results → is_faulted m ≡ false → NoneFaulted spawn_results → NoneFaulted (set spawn_results n m)
 fine_next spawn_results n m lt e h i k at = by (cases_eq i n)
   where
-    by : (i ≡ n) ⊎ (i ≡ n → ⊥) → is_failed k ≡ false
+    by : (i ≡ n) ⊎ (i ≡ n → ⊥) → is_faulted k ≡ false
     by (inl q) =
         let a : slice_get (set spawn_results n m) n ≡ Some k = ap (λ j. slice_get (set spawn_results n m) j) (sym q) ∙ at in
         let b : Some m ≡ Some k = sym (set_here spawn_results n m lt) ∙ a in
         let p : m ≡ k = cc in
-        ap is_failed (sym p) ∙ e
+        ap is_faulted (sym p) ∙ e
     by (inr d) = h i k (sym (set_else spawn_results n i m d) ∙ at)
 
-with_spawn_results : (m : SpawnResult) (os : List Outcome) → is_failed m ≡ false → fault_of m os ≡ least_among os
+with_spawn_results : (m : SpawnResult) (os : List Outcome) → is_faulted m ≡ false → fault_of m os ≡ least_among os
 with_spawn_results spawn_result.Fine os e = refl
 with_spawn_results (spawn_result.Fault k) os e = absurd (cc)
 with_spawn_results spawn_result.Poisoned os e = refl
 
 -- all streams
-pub none_first : (results : List Outcome) (n : ℕ) (ms : List SpawnResult) (ps : List Span) → NoneFailed ms → has_fault results ≡ false → first_among results n ms ps ≡ None
+pub none_first : (results : List Outcome) (n : ℕ) (ms : List SpawnResult) (ps : List Span) → NoneFaulted ms → has_fault results ≡ false → first_among results n ms ps ≡ None
 none_first results n [] ps h e = refl
 none_first results n (m ∷ ms) [] h e = refl
 none_first results n (m ∷ ms) (p ∷ ps) h e =

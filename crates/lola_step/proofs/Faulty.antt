@@ -10,9 +10,9 @@ use Rattle.lola_value.specs.declared.value.Outcome.TheVariants as outcome
 use Rattle.lola_value.specs.Answer.{Missing}
 use Rattle.lola_value.specs.Naming.{Naming, IsHeldIn, read_outcome}
 use Rattle.lola_model.specs.Acceptance.{IsAccepted}
-use Rattle.lola_model.specs.Faults.{RowFault, lesser_kind, add_failed, least_failed, own_fault, first_with}
+use Rattle.lola_model.specs.Faults.{RowFault, lesser_kind, add_faulted, least_faulted, own_fault, first_with}
 use Rattle.lola_model.specs.Model.{field_outcome, input_outcome, is_input, spawned_in}
-use Rattle.lola_model.specs.Table.{Step, Spawned, Idle, Named, SpawnFailed, SpawnPoisoned, Living, StreamRow, TableRow}
+use Rattle.lola_model.specs.Table.{Step, Spawned, Idle, Named, SpawnFaulted, SpawnPoisoned, Living, StreamRow, TableRow}
 use Rattle.lola_model.specs.declared.plan.Plan.{Plan}
 use Rattle.lola_step_contents.specs.Ends.{evaluation_fault}
 use Rattle.lola_step_contents.specs.Nexts.{InputIs, inputs_before, living_in}
@@ -68,28 +68,28 @@ least_of_none (Some k) = refl
 
 module _ (names : Naming) where
   -- an outcome is a fault where what it reads as is one
-  pub same_kind : (o : Outcome) (rest : Option FaultKind) → add_fault o rest ≡ add_failed (read_outcome names o) rest
+  pub same_kind : (o : Outcome) (rest : Option FaultKind) → add_fault o rest ≡ add_faulted (read_outcome names o) rest
   same_kind (outcome.Fault k) rest = refl
   same_kind (outcome.Value v) rest = refl
   same_kind outcome.Missing rest = refl
   same_kind outcome.Poison rest = refl
 
-  silent_least : (ls : List Living) → AreSilent ls → least_failed ls ≡ None
+  silent_least : (ls : List Living) → AreSilent ls → least_faulted ls ≡ None
   silent_least [] h = refl
-  silent_least (l ∷ ls) h = ap (λ a. add_failed a (least_failed ls)) h.0 ∙ silent_least ls h.1
+  silent_least (l ∷ ls) h = ap (λ a. add_faulted a (least_faulted ls)) h.0 ∙ silent_least ls h.1
 
   -- an instance that was asked counts with its outcome, and another adds nothing
   one_least : (b : Bool) (o : Outcome) (os : List Outcome) (l : Living) (ls : List Living) (here there : Type 0)
       → OneOf b ((read_outcome names o ≡ l.outcome) × IsHeldIn names o × here) ((l.outcome ≡ Missing) × there)
-      → (here → least_among os ≡ least_failed ls) → (there → least_among (o ∷ os) ≡ least_failed ls)
-      → least_among (o ∷ os) ≡ least_failed (l ∷ ls)
+      → (here → least_among os ≡ least_faulted ls) → (there → least_among (o ∷ os) ≡ least_faulted ls)
+      → least_among (o ∷ os) ≡ least_faulted (l ∷ ls)
   one_least true o os l ls here there h asked other =
       same_kind o (least_among os)
-      ∙ (ap (λ a. add_failed a (least_among os)) h.0
-      ∙ ap (add_failed l.outcome) (asked h.2))
-  one_least false o os l ls here there h asked other = other h.1 ∙ sym (ap (λ a. add_failed a (least_failed ls)) h.0)
+      ∙ (ap (λ a. add_faulted a (least_among os)) h.0
+      ∙ ap (add_faulted l.outcome) (asked h.2))
+  one_least false o os l ls here there h asked other = other h.1 ∙ sym (ap (λ a. add_faulted a (least_faulted ls)) h.0)
 
-  read_least : (i : ℕ) (ts : List Task) (os : List Outcome) (ls : List Living) → ReadEach names i ts os ls → least_among os ≡ least_failed ls
+  read_least : (i : ℕ) (ts : List Task) (os : List Outcome) (ls : List Living) → ReadEach names i ts os ls → least_among os ≡ least_faulted ls
   read_least i [] [] ls h = sym (silent_least ls h)
   read_least i [] (o ∷ os) ls h = absurd h
   read_least i (t ∷ ts) [] ls h = absurd h
@@ -97,22 +97,22 @@ module _ (names : Naming) where
   read_least i (t ∷ ts) (o ∷ os) (l ∷ ls) h =
       one_least (nat_eq t.index i) o os l ls _ _ h (read_least (i + 1) ts os ls) (read_least (i + 1) (t ∷ ts) (o ∷ os) ls)
 
-field_is_fine : (f : Option Field) → add_failed (field_outcome f) None ≡ None
+field_is_fine : (f : Option Field) → add_faulted (field_outcome f) None ≡ None
 field_is_fine None = refl
 field_is_fine (Some field.Absent) = refl
 field_is_fine (Some (field.Bool b)) = refl
 field_is_fine (Some (field.Int v)) = refl
 field_is_fine (Some (field.Text t)) = refl
 
-input_is_fine : (i : ℕ) (fields : Option (List Field)) → add_failed (input_outcome i fields) None ≡ None
+input_is_fine : (i : ℕ) (fields : Option (List Field)) → add_faulted (input_outcome i fields) None ≡ None
 input_is_fine i None = refl
 input_is_fine i (Some fields) = field_is_fine (slice_get fields i)
 
 of_spawned : (sp : Spawned) (os : List Outcome) (least : Option FaultKind) → least_among os ≡ least
-    → fault_of (spawn_result_of sp) os ≡ elim sp as (λ _. Option FaultKind) [ Idle ↦ least | Named p ↦ least | SpawnFailed k ↦ Some k | SpawnPoisoned ↦ least ]
+    → fault_of (spawn_result_of sp) os ≡ elim sp as (λ _. Option FaultKind) [ Idle ↦ least | Named p ↦ least | SpawnFaulted k ↦ Some k | SpawnPoisoned ↦ least ]
 of_spawned Idle os least e = e
 of_spawned (Named p) os least e = e
-of_spawned (SpawnFailed k) os least e = refl
+of_spawned (SpawnFaulted k) os least e = refl
 of_spawned SpawnPoisoned os least e = e
 
 -- of all streams
@@ -151,22 +151,22 @@ module _ (plan : Plan) (accepted : IsAccepted plan) (spawn_results : List SpawnR
       there : Element plan.spec.streams n
       there = element plan.spec.streams n below
 
-      input_least : is_input there.at ≡ true → least_among (in_span results (Some p)) ≡ least_failed y.living
+      input_least : is_input there.at ≡ true → least_among (in_span results (Some p)) ≡ least_faulted y.living
       input_least i =
           let none : p.count ≡ 0 = noted.inputs_empty n there.at p there.is i is_span in
           let one : InputIs plan start rows step n there.at = (inputs_go plan accepted start rows run.settled step).input n there.at there.is i in
-          let fine : add_failed (input_outcome (inputs_before plan.spec.streams n) step.fields) None ≡ None = input_is_fine (inputs_before plan.spec.streams n) step.fields in
+          let fine : add_faulted (input_outcome (inputs_before plan.spec.streams n) step.fields) None ≡ None = input_is_fine (inputs_before plan.spec.streams n) step.fields in
           ap (λ k. least_among (take k (drop p.from results))) none
           ∙ (sym fine
-          ∙ ap least_failed (sym one.living ∙ ap living_in is_row))
+          ∙ ap least_faulted (sym one.living ∙ ap living_in is_row))
 
-      other_least : is_input there.at ≡ false → least_among (in_span results (Some p)) ≡ least_failed y.living
+      other_least : is_input there.at ≡ false → least_among (in_span results (Some p)) ≡ least_faulted y.living
       other_least i =
           read_least names 0 (asked_in tasks (Some p)) (in_span results (Some p)) y.living
           (subst (λ (o : Option StreamRow). ShowLiving names (asked_in tasks (Some p)) (in_span results (Some p)) (living_in o)) is_row
           (subst (λ (o : Option Span). ShowLiving names (asked_in tasks o) (in_span results o) (living_in (slice_get full n))) is_span (noted.results_show n there.at there.is i)))
 
-      least : (b : Bool) → is_input there.at ≡ b → least_among (in_span results (Some p)) ≡ least_failed y.living
+      least : (b : Bool) → is_input there.at ≡ b → least_among (in_span results (Some p)) ≡ least_faulted y.living
       least true i = input_least i
       least false i = other_least i
 
@@ -179,7 +179,7 @@ module _ (plan : Plan) (accepted : IsAccepted plan) (spawn_results : List SpawnR
       same_fault : HasSameFault results m p y
       same_fault =
           ap (λ k. fault_of k (in_span results (Some p))) spawn_result_is
-          ∙ of_spawned y.spawned (in_span results (Some p)) (least_failed y.living) (least (is_input there.at) refl)
+          ∙ of_spawned y.spawned (in_span results (Some p)) (least_faulted y.living) (least (is_input there.at) refl)
 
     found : length spawn_results ≡ length plan.spec.streams → length spans ≡ length plan.spec.streams → read_fault (first_among results 0 spawn_results spans) ≡ evaluation_fault plan start rows step
     found a b =

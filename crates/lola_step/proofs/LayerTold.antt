@@ -14,7 +14,7 @@ use Rattle.lola_model.specs.Model.{eval_outcome, eval_pacing, is_input, spawned_
 use Rattle.lola_model.specs.Named.{has_clause}
 use Rattle.lola_model.specs.NextStep.{is_local}
 use Rattle.lola_model.specs.Store.{Memories, Seen, SeenInstance, SeenStream, StandForLives, StandForStreams, StreamLayout, instances_of, instances_seen, spawns_in}
-use Rattle.lola_model.specs.Table.{Idle, Instance, Living, Named, SpawnFailed, SpawnPoisoned, Spawned, Step, StreamRow, TableRow}
+use Rattle.lola_model.specs.Table.{Idle, Instance, Living, Named, SpawnFaulted, SpawnPoisoned, Spawned, Step, StreamRow, TableRow}
 use Rattle.lola_model.specs.Whereabouts.{may_stand_at}
 use Rattle.lola_model.specs.declared.pacing.Pacing.{Pacing}
 use Rattle.lola_model.specs.declared.plan.Plan.{Plan}
@@ -99,7 +99,7 @@ missing_where spec c false true (Some k) p e = absurd (cc)
 fine_is : (d : Spawned) → is_fine (Some (spawn_result_of d)) ≡ not (is_bad d)
 fine_is Idle = refl
 fine_is (Named p) = refl
-fine_is (SpawnFailed k) = refl
+fine_is (SpawnFaulted k) = refl
 fine_is SpawnPoisoned = refl
 
 and_same : (a p q : Bool) → (a ≡ true → p ≡ q) → (a && p) ≡ (a && q)

@@ -11,7 +11,7 @@ use Rattle.lola_model.specs.Content.{Content}
 use Rattle.lola_model.specs.Model.{close_answer, eval_outcome, named_params}
 use Rattle.lola_model.specs.Store.{Memories, Seen, no_params}
 use Rattle.lola_model.specs.Typing.{noted}
-use Rattle.lola_model.specs.Table.{Spawned, Idle, Named, SpawnFailed, SpawnPoisoned}
+use Rattle.lola_model.specs.Table.{Spawned, Idle, Named, SpawnFaulted, SpawnPoisoned}
 use Rattle.lola_model.specs.declared.expr.Expr.{Expr}
 use Rattle.lola_model.specs.declared.plan.Plan.{Plan}
 use Rattle.lola_model.specs.declared.spec.Clause.{Clause}
@@ -33,7 +33,7 @@ IsAnswer plan remembers s p f r =
 abbrev pub read_spawning : Naming → Spawning → Spawned
 read_spawning names spawning.Idle = Idle
 read_spawning names (spawning.Named p) = Named (read_params names p)
-read_spawning names (spawning.Fault k) = SpawnFailed k
+read_spawning names (spawning.Fault k) = SpawnFaulted k
 read_spawning names spawning.Poison = SpawnPoisoned
 
 -- the naming has the texts of the parameters

@@ -9,7 +9,7 @@ use Rattle.lola_value.specs.declared.value.Params.{Params}
 use Rattle.lola_value.specs.Kinds.{are_of_kinds}
 use Rattle.lola_value.specs.Naming.{Naming, IsNaming, read_params, the_values}
 use Rattle.lola_model.specs.Content.{Content}
-use Rattle.lola_model.specs.Faults.{add_failed}
+use Rattle.lola_model.specs.Faults.{add_faulted}
 use Rattle.lola_model.specs.Model.{close_pacing}
 use Rattle.lola_model.specs.Store.{Memories, Seen, SeenInstance, Stands, instances_seen, parameters_of}
 use Rattle.lola_model.specs.declared.pacing.Pacing.{Pacing}
@@ -46,7 +46,7 @@ module _ (plan : Plan) (names : Naming) (c : Content) (m : Moment) where
     -- the least kind of a fault among those of instances
     abbrev pub least_condition : List SeenInstance → Option FaultKind
     least_condition [] = None
-    least_condition (x ∷ xs) = add_failed (condition_of x) (least_condition xs)
+    least_condition (x ∷ xs) = add_faulted (condition_of x) (least_condition xs)
 
     -- the places at which they are true, of instances of stream n from a place on
     abbrev pub places_true : ℕ → ℕ → List SeenInstance → List Place

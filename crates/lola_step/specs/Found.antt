@@ -53,13 +53,13 @@ first_among results n (m ∷ ms) (p ∷ ps) = fault_or n (fault_of m (in_span re
 first_among results n _ _ = None
 
 -- whether a spawn clause failed
-abbrev pub is_failed : SpawnResult → Bool
-is_failed (spawn_result.Fault k) = true
-is_failed _ = false
+abbrev pub is_faulted : SpawnResult → Bool
+is_faulted (spawn_result.Fault k) = true
+is_faulted _ = false
 
 -- none did
-abbrev pub NoneFailed : List SpawnResult → Type 0
-NoneFailed spawn_results = (n : ℕ) (k : SpawnResult) → slice_get spawn_results n ≡ Some k → is_failed k ≡ false
+abbrev pub NoneFaulted : List SpawnResult → Type 0
+NoneFaulted spawn_results = (n : ℕ) (k : SpawnResult) → slice_get spawn_results n ≡ Some k → is_faulted k ≡ false
 
 -- whether an outcome is a fault
 abbrev pub is_fault : Outcome → Bool
@@ -73,7 +73,7 @@ has_fault (o ∷ os) = is_fault o || has_fault os
 
 -- no spawn clause failed, and no outcome is a fault
 abbrev pub IsFaultless : List SpawnResult → List Outcome → Type 0
-IsFaultless spawn_results results = NoneFailed spawn_results × (has_fault results ≡ false)
+IsFaultless spawn_results results = NoneFaulted spawn_results × (has_fault results ≡ false)
 
 -- values
 

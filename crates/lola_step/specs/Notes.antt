@@ -11,7 +11,7 @@ use Rattle.lola_model.specs.Faults.{RowFault}
 use Rattle.lola_model.specs.Graph.{eval_node, layer_of}
 use Rattle.lola_model.specs.Model.{is_input, eval_pacing, spawned_in}
 use Rattle.lola_model.specs.Store.{Seen, instances_seen, kind_in, layout_of, spawns_in}
-use Rattle.lola_model.specs.Table.{Spawned, Idle, Named, SpawnFailed, SpawnPoisoned, Living, StreamRow}
+use Rattle.lola_model.specs.Table.{Spawned, Idle, Named, SpawnFaulted, SpawnPoisoned, Living, StreamRow}
 use Rattle.lola_model.specs.declared.pacing.Pacing.{Pacing}
 use Rattle.lola_model.specs.declared.pacing.Pacing.TheVariants.{Local}
 use Rattle.lola_model.specs.declared.plan.Plan.{Plan}
@@ -35,7 +35,7 @@ use Rattle.lola_step.specs.declared.step_value.StepValue.{StepValue}
 abbrev pub spawn_result_of : Spawned → SpawnResult
 spawn_result_of Idle = spawn_result.Fine
 spawn_result_of (Named p) = spawn_result.Fine
-spawn_result_of (SpawnFailed k) = spawn_result.Fault k
+spawn_result_of (SpawnFaulted k) = spawn_result.Fault k
 spawn_result_of SpawnPoisoned = spawn_result.Poisoned
 
 -- as far as it is done

@@ -7,7 +7,7 @@ ghost use Rattle.lola_model.specs.Graph.{layer_of};
 ghost use Rattle.lola_model.specs.Model.{spawn_pacing};
 ghost use Rattle.lola_model.specs.Table.{Step, TableRow};
 ghost use Rattle.lola_step_contents.specs.Stages.{eval_stage, full_row, layer_stage, spawn_stage};
-ghost use Rattle.lola_step.specs.Found.{NoneFailed, is_failed};
+ghost use Rattle.lola_step.specs.Found.{NoneFaulted, is_faulted};
 ghost use Rattle.lola_step.specs.Notes.{AreSpawnResults};
 ghost use Rattle.lola_step.specs.Progress.{GoesOn, IsAt, IsMomentOf, IsRunAt, TakesTo};
 ghost use Rattle.lola_step.specs.Schedules.{duties_of};
@@ -115,8 +115,8 @@ fn spawn_stream<S: StreamStore>(
 }
 
 /// Whether a spawn clause failed so far, or this one did.
-fn or_failed(failed: bool, spawn_result: SpawnResult) -> bool
-    ensures { result ≡ (is_failed spawn_result || failed) }
+fn or_faulted(failed: bool, spawn_result: SpawnResult) -> bool
+    ensures { result ≡ (is_faulted spawn_result || failed) }
 {
     match spawn_result {
         SpawnResult::Fault(_) => true,
@@ -147,14 +147,14 @@ pub(crate) fn spawn_layer<S: StreamStore>(
         → IsRunAt plan.now moment.now (layer_stage (length plan.now.spec.streams) layer) (S.remembers store.old) (S.seen store.old) names rows step
         → AreSpawnResults plan.now (full_row plan.now moment.now.start rows step).streams (layer_stage (length plan.now.spec.streams) layer) spawn_results.old
         → AreSpawnResults plan.now (full_row plan.now moment.now.start rows step).streams (eval_stage (length plan.now.spec.streams) layer) spawn_results.new }
-    ensures fine { result ≡ false → NoneFailed spawn_results.old → NoneFailed spawn_results.new }
+    ensures fine { result ≡ false → NoneFaulted spawn_results.old → NoneFaulted spawn_results.new }
 {
     let mut failed = false;
     for number in duties {
         let n = *number as usize;
         let stream = stream_at(plan, *number);
         let spawn_result = spawn_stream(plan, moment, store, layer, n, stream, spawn_results[n]);
-        failed = or_failed(failed, spawn_result);
+        failed = or_faulted(failed, spawn_result);
         spawn_results[n] = spawn_result;
     }
     failed

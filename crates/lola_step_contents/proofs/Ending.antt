@@ -41,9 +41,9 @@ module _ (plan : Plan) (start : ℕ) (rows : List TableRow) (step : Step) where
   pub closes_asked : evaluation_fault plan start rows step ≡ None → answered plan start rows step ≡ closed_row
   closes_asked e = ap (λ b. if b then row else closed_row) (no_evaluation_fault 0 row.streams e)
 
-  fails_by_evaluation : (f : RowFault) → evaluation_fault plan start rows step ≡ Some f → (b : Bool) → row_fault (if b then row else closed_row) ≡ Some f
-  fails_by_evaluation f e true = ap (λ o. or_else o (first_with of_closes 0 row.streams)) e
-  fails_by_evaluation f e false = ap (λ o. or_else o (first_with of_closes 0 closed_row.streams)) (same_evaluation ∙ e)
+  faults_by_evaluation : (f : RowFault) → evaluation_fault plan start rows step ≡ Some f → (b : Bool) → row_fault (if b then row else closed_row) ≡ Some f
+  faults_by_evaluation f e true = ap (λ o. or_else o (first_with of_closes 0 row.streams)) e
+  faults_by_evaluation f e false = ap (λ o. or_else o (first_with of_closes 0 closed_row.streams)) (same_evaluation ∙ e)
 
   fails_by_closing : (f : RowFault) → evaluation_fault plan start rows step ≡ None → closing_fault plan start rows step ≡ Some f → row_fault (answered plan start rows step) ≡ Some f
   fails_by_closing f e g =
@@ -78,7 +78,7 @@ module _ (plan : Plan) (start : ℕ) (rows : List TableRow) (step : Step) where
 -- each step ends by its first fault, or has none
 pub each_step_ends : StepsEnd
 each_step_ends plan start rows step = record {
-  evaluation = λ f e. fails_by_evaluation plan start rows step f e (has_evaluation_fault (full_row plan start rows step).streams);
+  evaluation = λ f e. faults_by_evaluation plan start rows step f e (has_evaluation_fault (full_row plan start rows step).streams);
   closing = fails_by_closing plan start rows step;
   none = is_fine plan start rows step;
 }

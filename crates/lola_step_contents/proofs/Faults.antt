@@ -1,11 +1,11 @@
 -- The fault of a row with its close clauses: that of its evaluation, or else of its close clauses, or none.
 use Rattle.std.proofs.Common.{◌≡◌, refl, ap, ◌∙◌, ℕ, ◌+◌, List, [], ◌∷◌, Option, Some, None, Bool, true, false, ◌||◌}
-use Rattle.lola_value.specs.Answer.{Answer, Given, Missing, Failed, Poisoned}
+use Rattle.lola_value.specs.Answer.{Answer, Given, Missing, Faulted, Poisoned}
 use Rattle.lola_value.specs.declared.value.FaultKind.{FaultKind}
 use Rattle.lola_model.specs.Content.{content}
-use Rattle.lola_model.specs.Faults.{RowFault, own_fault, first_with, least_kind, lesser_kind, least_failed, add_failed}
-use Rattle.lola_model.specs.Model.{has_failed, spawn_has_failed, some_failed, has_evaluation_fault, has_close_fault, closes_from}
-use Rattle.lola_model.specs.Table.{Spawned, Idle, Named, SpawnFailed, SpawnPoisoned, Living, StreamRow, TableRow}
+use Rattle.lola_model.specs.Faults.{RowFault, own_fault, first_with, least_kind, lesser_kind, least_faulted, add_faulted}
+use Rattle.lola_model.specs.Model.{has_faulted, spawn_has_faulted, some_faulted, has_evaluation_fault, has_close_fault, closes_from}
+use Rattle.lola_model.specs.Table.{Spawned, Idle, Named, SpawnFaulted, SpawnPoisoned, Living, StreamRow, TableRow}
 use Rattle.lola_model.specs.declared.plan.Plan.{Plan}
 use Rattle.lola_model.specs.declared.spec.Stream.{Stream}
 use Rattle.lola_step_contents.specs.Ends.{close_fault, first_close_fault}
@@ -16,12 +16,12 @@ some_kind k None e = cc
 some_kind k (Some j) e = cc
 
 -- no instance has a fault where there is no least one
-no_least : (ls : List Living) → least_failed ls ≡ None → some_failed ls ≡ false
+no_least : (ls : List Living) → least_faulted ls ≡ None → some_faulted ls ≡ false
 no_least [] e = refl
 no_least (l ∷ ls) e = with_outcome l.outcome (no_least ls) e
   where
-    with_outcome : (a : Answer) → (least_failed ls ≡ None → some_failed ls ≡ false) → add_failed a (least_failed ls) ≡ None → (has_failed a || some_failed ls) ≡ false
-    with_outcome (Failed k) h e = absurd (some_kind k (least_failed ls) e)
+    with_outcome : (a : Answer) → (least_faulted ls ≡ None → some_faulted ls ≡ false) → add_faulted a (least_faulted ls) ≡ None → (has_faulted a || some_faulted ls) ≡ false
+    with_outcome (Faulted k) h e = absurd (some_kind k (least_faulted ls) e)
     with_outcome (Given v) h e = h e
     with_outcome Missing h e = h e
     with_outcome Poisoned h e = h e
@@ -36,11 +36,11 @@ none_of_two n (Some k) rest e = absurd (cc)
 
 -- a stream without a fault of its own
 none_own : (sp : Spawned) (ls : List Living)
-    → (elim sp as (λ _. Option FaultKind) [ Idle ↦ least_failed ls | Named p ↦ least_failed ls | SpawnFailed k ↦ Some k | SpawnPoisoned ↦ least_failed ls ]) ≡ None
-    → (spawn_has_failed sp ≡ false) × (some_failed ls ≡ false)
+    → (elim sp as (λ _. Option FaultKind) [ Idle ↦ least_faulted ls | Named p ↦ least_faulted ls | SpawnFaulted k ↦ Some k | SpawnPoisoned ↦ least_faulted ls ]) ≡ None
+    → (spawn_has_faulted sp ≡ false) × (some_faulted ls ≡ false)
 none_own Idle ls e = (refl, no_least ls e)
 none_own (Named p) ls e = (refl, no_least ls e)
-none_own (SpawnFailed k) ls e = absurd (cc)
+none_own (SpawnFaulted k) ls e = absurd (cc)
 none_own SpawnPoisoned ls e = (refl, no_least ls e)
 
 none_of_three : (a b c : Bool) → a ≡ false → b ≡ false → c ≡ false → (a || (b || c)) ≡ false
@@ -53,8 +53,8 @@ pub no_evaluation_fault : (n : ℕ) (ys : List StreamRow) → first_with own_fau
 no_evaluation_fault n [] e = refl
 no_evaluation_fault n (y ∷ ys) e =
     let h : (own_fault y ≡ None) × (first_with own_fault (n + 1) ys ≡ None) = none_of_two n (own_fault y) (first_with own_fault (n + 1) ys) e in
-    let own : (spawn_has_failed y.spawned ≡ false) × (some_failed y.living ≡ false) = none_own y.spawned y.living h.0 in
-    none_of_three (spawn_has_failed y.spawned) (some_failed y.living) (has_evaluation_fault ys) own.0 own.1 (no_evaluation_fault (n + 1) ys h.1)
+    let own : (spawn_has_faulted y.spawned ≡ false) × (some_faulted y.living ≡ false) = none_own y.spawned y.living h.0 in
+    none_of_three (spawn_has_faulted y.spawned) (some_faulted y.living) (has_evaluation_fault ys) own.0 own.1 (no_evaluation_fault (n + 1) ys h.1)
 
 -- the fault of a stream's close conditions
 abbrev pub of_closes : StreamRow → Option FaultKind

@@ -1,7 +1,7 @@
 -- The lines of a row are those of its values, in order.
 use Rattle.std.proofs.Common.{◌≡◌, refl, ap, ◌∙◌, sym, ℕ, ◌+◌, arith, List, [], ◌∷◌, ◌++◌, Some, Bool, true, false, if◌then◌else◌, length, slice_get, append_assoc, length-append}
 use Rattle.lola_value.specs.declared.text.Field.{Field}
-use Rattle.lola_value.specs.Answer.{Answer, Given, Missing, Failed, Poisoned}
+use Rattle.lola_value.specs.Answer.{Answer, Given, Missing, Faulted, Poisoned}
 use Rattle.lola_model.specs.Model.{is_input, closes_from}
 use Rattle.lola_model.specs.Table.{Living, StreamRow, TableRow}
 use Rattle.lola_model.specs.Texts.{answer_lines, value_lines, output_lines, trigger_lines, living_lines, stream_lines}
@@ -38,7 +38,7 @@ module _ (show : Show) (time : ℕ) where
       with_outcome : (a : Answer) → living_lines show time s ls ≡ [] → answer_lines show time s l.instance.params a ++ living_lines show time s ls ≡ []
       with_outcome (Given v) h = ap (λ (xs : List (List ℕ)). xs ++ living_lines show time s ls) (silent v) ∙ h
       with_outcome Missing h = h
-      with_outcome (Failed k) h = h
+      with_outcome (Faulted k) h = h
       with_outcome Poisoned h = h
 
   module _ (streams : List Stream) where
@@ -59,7 +59,7 @@ module _ (show : Show) (time : ℕ) where
             ap (λ o. lines_at show time o l.instance.params v ++ lines_of show time streams (values_among n ls)) at
             ∙ ap (λ (xs : List (List ℕ)). value_lines show time s l.instance.params v ++ xs) h
         with_outcome Missing h = h
-        with_outcome (Failed k) h = h
+        with_outcome (Faulted k) h = h
         with_outcome Poisoned h = h
 
     lines_from : (n : ℕ) (before : List Stream) → length before ≡ n → (ss : List Stream) → streams ≡ before ++ ss → (ys : List StreamRow)

@@ -7,14 +7,14 @@ use Rattle.std.proofs.Math.Seq.{drop-length}
 use Rattle.lola_value.specs.declared.text.Field.{Field}
 use Rattle.lola_value.specs.declared.text.Field.TheVariants as field
 use Rattle.lola_value.specs.declared.value.FaultKind.TheVariants as fault
-use Rattle.lola_value.specs.Answer.{Answer, Given, Missing, Failed, Poisoned}
+use Rattle.lola_value.specs.Answer.{Answer, Given, Missing, Faulted, Poisoned}
 use Rattle.lola_value.specs.Arithmetic.{all_equal}
 use Rattle.lola_model.specs.Acceptance.{IsAccepted}
 use Rattle.lola_model.specs.Activity.{is_active}
 use Rattle.lola_model.specs.Content.{Content, Life, StreamContent, is_bad, life_of, time_of, values_over}
 use Rattle.lola_model.specs.Graph.{eval_node, layer_of, spawn_node}
 use Rattle.lola_model.specs.Model.{is_among, is_input, last_row, most_instances, named_params, naming_outcome, newborn, spawn_guarded, spawn_outcome, spawn_pacing, spawned_in, survivors, when_answer}
-use Rattle.lola_model.specs.Table.{Step, Instance, Spawned, Idle, Named, SpawnFailed, SpawnPoisoned, StreamRow, TableRow}
+use Rattle.lola_model.specs.Table.{Step, Instance, Spawned, Idle, Named, SpawnFaulted, SpawnPoisoned, StreamRow, TableRow}
 use Rattle.lola_model.specs.declared.plan.Plan.{Plan}
 use Rattle.lola_model.specs.declared.spec.Clause.{Clause}
 use Rattle.lola_model.specs.declared.spec.Stream.{Stream}
@@ -40,7 +40,7 @@ end_by lives room = if lives then spawn.Living else if room then spawn.Born else
 
 -- what a clause did that named these parameters
 abbrev did_end : SpawnEnd → List Field → Spawned
-did_end e p = elim e [ spawn.Born ↦ Named p | spawn.Living ↦ Named p | spawn.TooMany ↦ SpawnFailed fault.TooManyInstances ]
+did_end e p = elim e [ spawn.Born ↦ Named p | spawn.Living ↦ Named p | spawn.TooMany ↦ SpawnFaulted fault.TooManyInstances ]
 
 -- and what becomes of the content
 abbrev after_end : SpawnEnd → Content → ℕ → List Field → Content
@@ -73,7 +73,7 @@ module _ (rows : List TableRow) (time n : ℕ) where
       ∙ (ap (λ b. end_by b (nat_lt (length (quiet alive)) most_instances)) (quiet_lives p alive)
       ∙ ap (λ k. end_by (is_among p alive) (nat_lt k most_instances)) (quiet_length alive))
 
-  did_named : (p : List Field) (lives room : Bool) → (if not lives && not room then SpawnFailed fault.TooManyInstances else Named p) ≡ did_end (end_by lives room) p
+  did_named : (p : List Field) (lives room : Bool) → (if not lives && not room then SpawnFaulted fault.TooManyInstances else Named p) ≡ did_end (end_by lives room) p
   did_named p true room = refl
   did_named p false true = refl
   did_named p false false = refl
@@ -82,7 +82,7 @@ module _ (rows : List TableRow) (time n : ℕ) where
   did_asked c alive e (Ok p) = did_named p (is_among p alive) (nat_lt (length alive) most_instances) ∙ ap (λ x. did_end x p) (sym (quiet_end p alive _ e))
   did_asked c alive e (Err (Given v)) = refl
   did_asked c alive e (Err Missing) = refl
-  did_asked c alive e (Err (Failed k)) = refl
+  did_asked c alive e (Err (Faulted k)) = refl
   did_asked c alive e (Err Poisoned) = refl
 
   -- what a clause does among those who live is what it did by what it asks for
@@ -94,7 +94,7 @@ module _ (rows : List TableRow) (time n : ℕ) where
   did_where c alive e (Given (field.Text v)) r = refl
   did_where c alive e (Given field.Absent) r = refl
   did_where c alive e Missing r = refl
-  did_where c alive e (Failed k) r = refl
+  did_where c alive e (Faulted k) r = refl
   did_where c alive e Poisoned r = refl
 
   newborn_is : (p : List Field) → quiet (record { params = p; born = length rows } ∷ []) ≡ newborn_life time p ∷ []
@@ -245,7 +245,7 @@ module _ (plan : Plan) (accepted : IsAccepted plan) (start : ℕ) (rows : List T
           ∙ (ap (λ xs. record { bad = false; lives = quiet rows step.time n (alive ++ xs) }) (newborn_by p false true e f)
           ∙ (ap (λ ls. record { bad = false; lives = ls }) (quiet_append rows step.time n alive (record { params = p; born = length rows } ∷ []) ∙ ap (λ ls. quiet rows step.time n alive ++ ls) (newborn_is rows step.time n p))
           ∙ ap (λ (c : StreamContent). record { bad = c.bad; lives = c.lives ++ newborn_life step.time p ∷ [] }) (sym before)))))
-      next_named p false false e f did = next_spoiled (SpawnFailed fault.TooManyInstances) did refl refl
+      next_named p false false e f did = next_spoiled (SpawnFaulted fault.TooManyInstances) did refl refl
 
       next_is : (asks : Spawned) → row.spawned ≡ did_of asks now n → with_contents plan start rows step (contents plan start rows step (stage (n + 1))) ≡ after_asking asks now n
       next_is Idle did = sym (next_same Idle did refl refl)
@@ -253,7 +253,7 @@ module _ (plan : Plan) (accepted : IsAccepted plan) (start : ℕ) (rows : List T
           let e = quiet_end rows step.time n p alive (lives_in (slice_get (contents plan start rows step (stage n)) n)) lives_now in
           next_named p (is_among p alive) (nat_lt (length alive) most_instances) refl refl (did ∙ ap (λ x. did_end x p) e)
           ∙ ap (λ x. after_end x now n p) (sym e)
-      next_is (SpawnFailed f) did = next_spoiled (SpawnFailed f) did refl refl
+      next_is (SpawnFaulted f) did = next_spoiled (SpawnFaulted f) did refl refl
       next_is SpawnPoisoned did = next_spoiled SpawnPoisoned did refl refl
 
       spawn_is : SpawnIs plan start rows step layer n k

@@ -3,7 +3,7 @@ use Rattle.std.specs.Prelude.{ℕ, zero, suc, ◌≡◌, ◌+◌, ◌<◌, List,
 use Rattle.lola_value.specs.declared.text.Field.{Field}
 use Rattle.lola_value.specs.declared.text.Field.TheVariants as field
 use Rattle.lola_value.specs.declared.value.FaultKind.TheVariants as fault
-use Rattle.lola_value.specs.Answer.{Answer, Given, Missing, Failed, Poisoned}
+use Rattle.lola_value.specs.Answer.{Answer, Given, Missing, Faulted, Poisoned}
 use Rattle.lola_value.specs.Naming.{Naming}
 use Rattle.lola_model.specs.Acceptance.{IsAccepted}
 use Rattle.lola_model.specs.Activity.{is_active, is_active_for, may_be_active}
@@ -12,7 +12,7 @@ use Rattle.lola_model.specs.Graph.{eval_node, spawn_node, layer_of}
 use Rattle.lola_model.specs.Model.{survivors, last_row, answered, is_input, input_outcome, eval_outcome, eval_pacing, spawn_pacing, when_answer, named_params, spawned_in, newborn}
 use Rattle.lola_model.specs.Runs.{begun, content_after, rested}
 use Rattle.lola_model.specs.Store.{Memories, Seen, Stands, layout_of}
-use Rattle.lola_model.specs.Table.{Step, Spawned, Idle, Named, SpawnFailed, SpawnPoisoned, Living, StreamRow, TableRow}
+use Rattle.lola_model.specs.Table.{Step, Spawned, Idle, Named, SpawnFaulted, SpawnPoisoned, Living, StreamRow, TableRow}
 use Rattle.lola_model.specs.declared.plan.Plan.{Plan}
 use Rattle.lola_model.specs.declared.spec.Spec.{Spec}
 use Rattle.lola_model.specs.declared.spec.Stream.{Stream}
@@ -25,7 +25,7 @@ use Rattle.lola_step_contents.specs.Stages.{Stage, AreSettled, is_spawned, full_
 -- what a spawn clause asks for, before it is known who lives: an instance, nothing, or it fails
 abbrev pub asked_of : Result (List Field) Answer → Spawned
 asked_of (Ok p) = Named p
-asked_of (Err (Failed k)) = SpawnFailed k
+asked_of (Err (Faulted k)) = SpawnFaulted k
 asked_of (Err Missing) = Idle
 asked_of (Err a) = SpawnPoisoned
 
@@ -34,7 +34,7 @@ abbrev pub where_true : Answer → Spawned → Spawned
 where_true (Given (field.Bool true)) s = s
 where_true (Given v) s = Idle
 where_true Missing s = Idle
-where_true (Failed k) s = SpawnFailed k
+where_true (Faulted k) s = SpawnFaulted k
 where_true Poisoned s = SpawnPoisoned
 
 -- an active spawn clause
@@ -46,13 +46,13 @@ abbrev pub after_asking : Spawned → Content → ℕ → Content
 after_asking Idle c n = c
 after_asking (Named p) c n =
     elim (spawn_end_among p (lives_in (slice_get c.streams n))) [ spawn.Born ↦ after_spawning spawn.Born c n p | spawn.Living ↦ c | spawn.TooMany ↦ spoiled c n ]
-after_asking (SpawnFailed k) c n = spoiled c n
+after_asking (SpawnFaulted k) c n = spoiled c n
 after_asking SpawnPoisoned c n = spoiled c n
 
 -- and what the clause did then
 abbrev pub did_of : Spawned → Content → ℕ → Spawned
 did_of (Named p) c n =
-    elim (spawn_end_among p (lives_in (slice_get c.streams n))) [ spawn.Born ↦ Named p | spawn.Living ↦ Named p | spawn.TooMany ↦ SpawnFailed fault.TooManyInstances ]
+    elim (spawn_end_among p (lives_in (slice_get c.streams n))) [ spawn.Born ↦ Named p | spawn.Living ↦ Named p | spawn.TooMany ↦ SpawnFaulted fault.TooManyInstances ]
 did_of s c n = s
 
 -- the instance at a place of a stream, with its answer

@@ -19,7 +19,7 @@ use Rattle.lola_value.specs.declared.value.Value.{Value}
 use Rattle.lola_value.specs.declared.value.Value.TheVariants as value
 use Rattle.lola_value.specs.declared.value.Outcome.{Outcome}
 use Rattle.lola_value.specs.declared.value.Outcome.TheVariants as outcome
-use Rattle.lola_value.specs.Answer.{Given, Failed}
+use Rattle.lola_value.specs.Answer.{Given, Faulted}
 use Rattle.lola_value.specs.Arithmetic.{is_within, within}
 use Rattle.lola_value.specs.Kinds.{is_integer}
 use Rattle.lola_value.specs.Naming.{Naming, read, read_outcome, text_at, the_text}
@@ -133,7 +133,7 @@ highest_is t a (v ∷ vs) e =
 
 within_reads : (names : Naming) (k : Kind) (z : ℤ) → read_outcome names (within_kind k z) ≡ within k z
 within_reads names k z =
-    elim (is_within k z) as (λ b. read_outcome names (if b then outcome.Value (value.Int z) else outcome.Fault fault.Overflow) ≡ (if b then Given (field.Int z) else Failed fault.Overflow)) [ true ↦ refl | false ↦ refl ]
+    elim (is_within k z) as (λ b. read_outcome names (if b then outcome.Value (value.Int z) else outcome.Fault fault.Overflow) ≡ (if b then Given (field.Int z) else Faulted fault.Overflow)) [ true ↦ refl | false ↦ refl ]
 
 minimum_reads : (names : Naming) (vs : List Value) → read_outcome names (number_or_missing (tallied empty vs).lowest) ≡ minimum_of (map number_in vs)
 minimum_reads names [] = refl

@@ -6,7 +6,7 @@ use Rattle.lola_value.specs.declared.value.Value.{Value}
 use Rattle.lola_value.specs.declared.value.Value.TheVariants as value
 use Rattle.lola_value.specs.declared.value.FaultKind.{FaultKind}
 use Rattle.lola_value.specs.declared.text.Field.TheVariants as field
-use Rattle.lola_value.specs.Answer.{Answer, Given, Failed}
+use Rattle.lola_value.specs.Answer.{Answer, Given, Faulted}
 use Rattle.lola_value.specs.declared.value.Outcome.{Outcome}
 use Rattle.lola_value.specs.declared.value.Outcome.TheVariants as outcome
 use Rattle.lola_value.specs.declared.value.Params.{Params}
@@ -53,7 +53,7 @@ kind_number kind.Text = 9
 -- what arithmetic comes to: a number, or a fault
 abbrev pub calculated : Result ℤ FaultKind → Answer
 calculated (Ok z) = Given (field.Int z)
-calculated (Err k) = Failed k
+calculated (Err k) = Faulted k
 
 -- a number that a kind of numbers has
 pub record IsOperand (k : Kind) (z : ℤ) : Type 0 where

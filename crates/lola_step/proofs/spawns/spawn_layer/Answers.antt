@@ -2,7 +2,7 @@
 use Rattle.std.proofs.Common.{◌≡◌, ◌∙◌, ◌+◌, arith, drop, get_or, length, sym}
 use Rattle.std.proofs.lemmas.Option.{slice_get-get_or}
 use Rattle.std.proofs.lemmas.Bool.{or_parts}
-use Rattle.lola_step.specs.Found.{is_failed}
+use Rattle.lola_step.specs.Found.{is_faulted}
 use Rattle.lola_step.specs.Schedules.{has_duty}
 use Rattle.lola_step.specs.declared.spawn_result.SpawnResult.TheVariants as spawn_result
 use Rattle.lola_step.specs.declared.schedule.Duty.TheVariants as duty
@@ -50,7 +50,7 @@ loop-number-preserved g c =
     let long : length spawn_results ≡ length plan.spec.streams = c.loop-number.auto.spawn_results ∙ c.requires.spawn_results in
     record {
       fine = λ none fine.
-          let p = or_parts (is_failed c.spawn_stream-spawn_result.result) c.loop-number.failed (sym c.or_failed-failed.ensures ∙ none) in
+          let p = or_parts (is_faulted c.spawn_stream-spawn_result.result) c.loop-number.failed (sym c.or_faulted-failed.ensures ∙ none) in
           fine_next spawn_results n c.spawn_stream-spawn_result.result (omega (arith, long, t.below)) p.0 (c.loop-number.invariant.fine p.1 fine);
       walk = walk_on (has_duty plan (duty.Spawn c.args.layer)) plan.spec.streams _ _ n (drop (c.loop-number.number-index + 1) c.args.duties.now) t
           (one_more_spawned plan c.args.moment.now c.args.layer n c.args.spawn_results.now spawn_results (g.S.StreamStore.remembers c.args.store.now) (g.S.StreamStore.seen c.args.store.now)

@@ -1,7 +1,7 @@
 use Rattle.std.proofs.Common.{◌∙◌, Some, None, ap, subst, sym}
 use Rattle.lola_step.specs.Ends.{FindsClosings, FindsFault}
-use Rattle.lola_step.specs.Found.{NoneFailed, has_fault}
-use Rattle.lola_step.proofs.Endings.{fails_by_closing, fails_by_evaluation, is_done, same_fault, same_spans, same_step_values, same_within}
+use Rattle.lola_step.specs.Found.{NoneFaulted, has_fault}
+use Rattle.lola_step.proofs.Endings.{fails_by_closing, faults_by_evaluation, is_done, same_fault, same_spans, same_step_values, same_within}
 use Rattle.lola_step.proofs.step.conclude.Goals as goal
 
 pub fault_of_step-requires-clause-within : goal.fault_of_step-requires-clause-within
@@ -12,7 +12,7 @@ fault_of_step-requires-clause-within g c =
 pub fault_of_step-requires-clause-faultless : goal.fault_of_step-requires-clause-faultless
 fault_of_step-requires-clause-faultless g c none =
     let faultless = c.requires.faultless none in (
-      subst NoneFailed (sym c.deref.ensures.value) faultless.0,
+      subst NoneFaulted (sym c.deref.ensures.value) faultless.0,
       ap has_fault c.deref-3.ensures.value ∙ faultless.1,
     )
 
@@ -20,7 +20,7 @@ pub returns-in-Some-clause-concludes : goal.returns-in-Some-clause-concludes
 returns-in-Some-clause-concludes g c names rows step run moment noted stands =
     let now = c.args.scratch.now in
     let finds : FindsFault c.args.plan.now c.deref.result.now c.deref-2.result.now now.tasks.items c.deref-3.result.now (Some (c.in-Some.stream, c.in-Some.kind)) = c.in-Some.ensures now.tasks.items in
-    fails_by_evaluation c.args.plan.now c.args.moment.now now.spawn_results.items now.spans.items now.tasks.items now.results.items c.in-Some.stream c.in-Some.kind
+    faults_by_evaluation c.args.plan.now c.args.moment.now now.spawn_results.items now.spans.items now.tasks.items now.results.items c.in-Some.stream c.in-Some.kind
     (same_fault c.args.plan.now now.spawn_results.items c.deref.result.now now.spans.items c.deref-2.result.now now.tasks.items now.results.items c.deref-3.result.now (Some (c.in-Some.stream, c.in-Some.kind))
     c.deref.ensures.value c.deref-2.ensures.value c.deref-3.ensures.value finds)
     names rows step run noted

@@ -3,7 +3,7 @@ use Rattle.std.proofs.lemmas.List.{take_at}
 use Rattle.std.proofs.lemmas.Bool.{or_parts}
 use Rattle.lola_step_contents.specs.Stages.{eval_stage}
 use Rattle.lola_step.specs.Evals.{EvalsTake, IsReadyFor, ShowsMore}
-use Rattle.lola_step.specs.Found.{NoneFailed, has_fault}
+use Rattle.lola_step.specs.Found.{NoneFaulted, has_fault}
 use Rattle.lola_step.specs.Schedules.{IsScheduleOf}
 use Rattle.lola_step.specs.Sought.{AreUnsought}
 use Rattle.lola_step.specs.declared.spawn_result.SpawnResult.{SpawnResult}
@@ -118,7 +118,7 @@ loop-layer-preserved g c =
           let p = or_parts c.loop-layer.faulty (c.spawn_layer-failed.result || c.eval_layer-given.result) (sym c.one_of-faulty.ensures ∙ none) in
           let q = or_parts c.spawn_layer-failed.result c.eval_layer-given.result p.1 in
           let before_it = c.loop-layer.invariant.faultless p.0 in (
-            subst NoneFailed (sym spawn_results_back) (c.spawn_layer-failed.ensures.fine q.0 (subst NoneFailed (sym c.deref_mut.ensures.value) before_it.0)),
+            subst NoneFaulted (sym spawn_results_back) (c.spawn_layer-failed.ensures.fine q.0 (subst NoneFaulted (sym c.deref_mut.ensures.value) before_it.0)),
             c.eval_layer-given.ensures.faultless q.1 before_it.1,
           );
       known = c.eval_layer-given.ensures.known;

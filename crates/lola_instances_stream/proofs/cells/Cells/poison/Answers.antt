@@ -3,7 +3,7 @@ use Rattle.std.proofs.Common.{Some, length, refl, ap, subst, arith, slice_set}
 use Rattle.std.proofs.lemmas.List.{length-set}
 use Rattle.std.proofs.lemmas.Option.{slice_get_read, slice_get_within}
 use Rattle.lola_instances_stream.specs.Cells.{IsTaken, Line, living}
-use Rattle.lola_instances_stream.specs.Changes.{HasFailed, IsChangedAt}
+use Rattle.lola_instances_stream.specs.Changes.{WasPoisoned, IsChangedAt}
 use Rattle.lola_instances_stream.proofs.Known.{known_changed, place_changed}
 use Rattle.lola_instances_stream.proofs.Taken.{stands_get, stands_taken}
 use Rattle.lola_instances_stream.proofs.cells.Cells.poison.Goals as goal
@@ -32,7 +32,7 @@ invariant_of-self c =
     let st = c.cell_at-cell.ensures in
     let within = slice_get_within cells cell (Some st.0) (stands_get cells cell c.args.place st.0 st.1) in
     let at = slice_get_read cells (length cells) cell c.index_mut.result.now refl within c.index_mut.ensures.value in
-    let R = HasFailed c.args.step in
+    let R = WasPoisoned c.args.step in
     let h = place_changed R cells (slice_set cells cell new) cell c.index_mut.result.now new c.poison_in.ensures at refl c.args.place st.0 st.1 in
     let n = ap length h.set in
     let k = length-set cells cell new in
@@ -52,6 +52,6 @@ returns-clause-changed c =
     let st = c.cell_at-cell.ensures in
     let within = slice_get_within cells cell (Some st.0) (stands_get cells cell c.args.place st.0 st.1) in
     let at = slice_get_read cells (length cells) cell c.index_mut.result.now refl within c.index_mut.ensures.value in
-    let R = HasFailed c.args.step in
+    let R = WasPoisoned c.args.step in
     subst (λ (l : Line). IsChangedAt R c.args.place l.items (living (slice_set cells cell new))) c.self.view_is
     (place_changed R cells (slice_set cells cell new) cell c.index_mut.result.now new c.poison_in.ensures at refl c.args.place st.0 st.1)

@@ -2,10 +2,10 @@ use Rattle.std.proofs.Common.{◌∙◌, map, slice_get, ap, sym, subst, true, I
 use Rattle.lola_value.specs.declared.value.Outcome.TheVariants as outcome
 use Rattle.lola_model.specs.Store.{StreamLayout, is_silent, told_at}
 use Rattle.lola_instances_one.specs.Holdings.{Holdings, shown, slot_seen}
-use Rattle.lola_instances_stream.specs.Changes.{HasFailed}
+use Rattle.lola_instances_stream.specs.Changes.{WasPoisoned}
 use Rattle.lola_instances_stream.specs.Crowds.{Crowd, RemembersAt, shown_at}
 use Rattle.lola_instances_stream.specs.Rights.{AreRight, HasPlaces, SlotRight}
-use Rattle.lola_instances_stream.proofs.Outcomes.{changed_each, changed_seen, changed_past, changed_silent, is_missing, failed_right, failed_seen}
+use Rattle.lola_instances_stream.proofs.Outcomes.{changed_each, changed_seen, changed_past, changed_silent, is_missing, poisoned_right, poisoned_seen}
 use Rattle.lola_instances_stream.proofs.Dues.{changed_births}
 use Rattle.lola_instances_stream.proofs.instances.Instances.poison.Goals as goal
 
@@ -18,15 +18,15 @@ returns-clause-right c =
     let xs = c.self.inside.slots.items in
     let ys = c.poison.new.self.items in
     let h = c.poison.ensures.changed in
-    let silent = changed_silent (HasFailed c.args.step) c.args.index xs ys h c.args.step (subst (λ (k : Crowd). IsTrue (is_silent (shown_at c.args.step (slice_get k.slots c.args.index)))) (sym w) c.requires.silent) in
-    changed_each (HasFailed c.args.step) c.args.index xs ys h (SlotRight layout windows true c.args.step off) (subst (AreRight true c.args.step off) (sym w) c.requires.right)
-    (λ p. failed_right layout windows c.args.step off h.x h.y p h.related)
+    let silent = changed_silent (WasPoisoned c.args.step) c.args.index xs ys h c.args.step (subst (λ (k : Crowd). IsTrue (is_silent (shown_at c.args.step (slice_get k.slots c.args.index)))) (sym w) c.requires.silent) in
+    changed_each (WasPoisoned c.args.step) c.args.index xs ys h (SlotRight layout windows true c.args.step off) (subst (AreRight true c.args.step off) (sym w) c.requires.right)
+    (λ p. poisoned_right layout windows c.args.step off h.x h.y p h.related)
 
 pub returns-clause-seen : goal.returns-clause-seen
 returns-clause-seen c =
     let w = c.self.view_is in
     let h = c.poison.ensures.changed in
-    changed_seen (HasFailed c.args.step) c.args.index c.self.inside.slots.items c.poison.new.self.items h c.args.step outcome.Poison (failed_seen c.args.step h.x h.y h.related)
+    changed_seen (WasPoisoned c.args.step) c.args.index c.self.inside.slots.items c.poison.new.self.items h c.args.step outcome.Poison (poisoned_seen c.args.step h.x h.y h.related)
     ∙ ap (λ (k : Crowd). told_at (map (slot_seen c.args.step) k.slots) c.args.index outcome.Poison) w
 
 pub returns-clause-past : goal.returns-clause-past
@@ -35,9 +35,9 @@ returns-clause-past c = λ start time names i values m.
     let xs = c.self.inside.slots.items in
     let ys = c.poison.new.self.items in
     let h = c.poison.ensures.changed in
-    let silent = changed_silent (HasFailed c.args.step) c.args.index xs ys h c.args.step (subst (λ (k : Crowd). IsTrue (is_silent (shown_at c.args.step (slice_get k.slots c.args.index)))) (sym w) c.requires.silent) in
+    let silent = changed_silent (WasPoisoned c.args.step) c.args.index xs ys h c.args.step (subst (λ (k : Crowd). IsTrue (is_silent (shown_at c.args.step (slice_get k.slots c.args.index)))) (sym w) c.requires.silent) in
     let none = is_missing (shown c.args.step h.x) silent in
-    changed_past (HasFailed c.args.step) c.args.index xs ys h (λ o. RemembersAt start time c.args.step names o values) i (λ q. h.related.past start time names values q none)
+    changed_past (WasPoisoned c.args.step) c.args.index xs ys h (λ o. RemembersAt start time c.args.step names o values) i (λ q. h.related.past start time names values q none)
     (subst (λ (k : Crowd). RemembersAt start time c.args.step names (slice_get k.slots i) values) (sym w) m)
 
 pub invariant_of-self : goal.invariant_of-self
@@ -48,7 +48,7 @@ invariant_of-self c =
       c.self.invariant.0,
       listed,
       record {
-        births = λ timed. dated.births timed ∙ sym (changed_births (HasFailed c.args.step) c.args.index c.self.inside.slots.items c.poison.new.self.items h (ap (λ (s : Holdings). s.born) h.related.slot));
+        births = λ timed. dated.births timed ∙ sym (changed_births (WasPoisoned c.args.step) c.args.index c.self.inside.slots.items c.poison.new.self.items h (ap (λ (s : Holdings). s.born) h.related.slot));
         room = dated.room;
       },
     )
