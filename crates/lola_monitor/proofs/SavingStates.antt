@@ -1,9 +1,9 @@
 -- The state that a run has come to, and how many steps it has.
-use Rattle.std.proofs.Common.{◌≡◌, ◌↔◌, ℕ, ◌<◌, ◌≤◌, Bool, true, false, IsTrue, List, nat_lt, refl, subst, arith}
+use Rattle.std.proofs.Common.{◌≡◌, ◌↔◌, ◌∙◌, ℕ, ◌<◌, ◌≤◌, Bool, true, false, IsTrue, List, ap, nat_lt, refl, subst, arith}
 use Rattle.std.proofs.lemmas.Bool.Decides.{nat_tests}
 use Rattle.lola_model.specs.declared.journal.Entry.{Entry}
 use Rattle.lola_engine.specs.Behind.{StandsBehind}
-use Rattle.lola_engine.specs.Resuming.{HasReached}
+use Rattle.lola_engine.specs.Resuming.{HasReached, times_of}
 use Rattle.lola_engine.specs.declared.engine.EngineState.{EngineState}
 use Rattle.lola_engine.specs.declared.times.RunTimes.{RunTimes}
 use Rattle.lola_instances.specs.Stores.{bounded_remembers, bounded_seen}
@@ -13,7 +13,7 @@ use Rattle.lola_save_text.specs.JournalStates.{state_of}
 use Rattle.lola_save_text.specs.Fitting.{most_steps}
 use Rattle.lola_save_text.specs.Lines.{state_text}
 use Rattle.lola_monitor_run.specs.Running.{Keeping}
-use Rattle.lola_monitor.specs.SnapshotOutcomes.{SavesState}
+use Rattle.lola_monitor.specs.SnapshotOutcomes.{SavesState, counted}
 use Rattle.lola_monitor.specs.declared.call_end.CallEnd.TheVariants.{Report, Stated}
 
 -- a number that is not more than the most
@@ -33,14 +33,21 @@ abbrev pub Writes : List ℕ → EngineState → BoundedStore → List ℕ → T
 Writes specification e s text =
     (before journal : List Entry) → StandsBehind e (bounded_seen s) (bounded_remembers s) before journal → text ≡ state_text specification e.plan (state_of e.plan e.given_start journal)
 
-module _ (specification : List ℕ) (kept : Keeping) (e : EngineState) (s : BoundedStore) (times : RunTimes) (same_state : e ≡ kept.state) (same_store : s ≡ kept.store) (reaches : Reaches e s times) where
+module _ (specification : List ℕ) (kept : Keeping) (e : EngineState) (s : BoundedStore) (times : RunTimes) (same_state : e ≡ kept.state) (same_store : s ≡ kept.store) (value : times ≡ times_of e) (reaches : Reaches e s times) where
   kept_reaches : Reaches kept.state kept.store times
   kept_reaches = subst (λ (x : EngineState). Reaches x kept.store times) same_state (subst (λ (y : BoundedStore). Reaches e y times) same_store reaches)
 
+  -- what the engine counts is what the run has kept of it
+  is_counted : times.steps ≡ counted kept
+  is_counted = ap (λ (t : RunTimes). t.steps) value ∙ ap (λ (x : EngineState). (times_of x).steps) same_state
+
   pub saves_text : (text : List ℕ) → times.steps ≤ most_steps → Writes specification e s text → SavesState (Report text) specification kept
-  saves_text text few writes before journal stands =
-      let kept_writes = subst (λ (x : EngineState). Writes specification x kept.store text) same_state (subst (λ (y : BoundedStore). Writes specification e y text) same_store writes) in
-      (subst (λ n. n ≤ most_steps) (kept_reaches before journal stands.engine).steps few, kept_writes before journal stands.engine)
+  saves_text text few writes =
+      let kept_writes = subst (λ (x : EngineState). Writes specification x kept.store text) same_state (subst (λ (y : BoundedStore). Writes specification e y text) same_store writes) in (
+        subst (λ n. n ≤ most_steps) is_counted few,
+        λ before journal stands. (subst (λ n. n ≤ most_steps) (kept_reaches before journal stands.engine).steps few, kept_writes before journal stands.engine),
+      )
 
   pub saves_none : most_steps < times.steps → SavesState (Stated state_end.TooManySteps) specification kept
-  saves_none many before journal stands = subst (λ n. most_steps < n) (kept_reaches before journal stands.engine).steps many
+  saves_none many =
+      (subst (λ n. most_steps < n) is_counted many, λ before journal stands. subst (λ n. most_steps < n) (kept_reaches before journal stands.engine).steps many)

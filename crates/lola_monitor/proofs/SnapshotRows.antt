@@ -208,7 +208,7 @@ module _ (specification : List ℕ) (kept0 kept1 : Keeping) (names : List (List 
   saved_rows : (text : List ℕ) (front : List Entry) → StandingRows front (setting_in kept0) kept1 names before after → SavesState (Report text) specification kept1 → SavedRows text specification front (setting_in kept0) names before after
   saved_rows text front w saves =
       let journal : List Entry = front ++ w.whole.ended.taken.run.journal in
-      let e = saves front journal w.stands in
+      let e = saves.1 front journal w.stands in
       record {
         whole = w.whole;
         few = subst (λ (t : Setting). steps_of t journal ≤ most_steps) same e.0;
@@ -218,7 +218,7 @@ module _ (specification : List ℕ) (kept0 kept1 : Keeping) (names : List (List 
   long_rows : (front : List Entry) → StandingRows front (setting_in kept0) kept1 names before after → SavesState (Stated state_end.TooManySteps) specification kept1 → LongRows front (setting_in kept0) names before after
   long_rows front w many =
       let journal : List Entry = front ++ w.whole.ended.taken.run.journal in
-      record { whole = w.whole; many = subst (λ (t : Setting). most_steps < steps_of t journal) same (many front journal w.stands) }
+      record { whole = w.whole; many = subst (λ (t : Setting). most_steps < steps_of t journal) same (many.1 front journal w.stands) }
 
   whole_rows : (done : Unit {0}) (outcome : CallEnd) → TookRows (Ok done) sources_end.Whole kept0 kept1 names before after → SavesState outcome specification kept1 → RunsRows outcome specification kept0 names before after
   whole_rows done (Line line) took saves = absurd saves

@@ -7,6 +7,7 @@ use Rattle.lola_model.specs.Journal.{accepted, known_start, rows_of}
 use Rattle.lola_model.specs.Runs.{settled_model}
 use Rattle.lola_model.specs.declared.journal.Entry.{Entry}
 use Rattle.lola_model.specs.declared.plan.Plan.{Plan}
+use Rattle.lola_engine.specs.Resuming.{times_of}
 use Rattle.lola_rows.specs.Rows.{SourceEnd, Whole}
 use Rattle.lola_report.specs.declared.end.EndLine.{EndLine}
 use Rattle.lola_report.specs.declared.end.EndLine.TheVariants.{Done, Usage, Refused, Malformed, Fault, UnreadableSpecification, UnreadableSource, Analysed}
@@ -43,18 +44,24 @@ nowhere = record { written = None; count = 0 }
 abbrev pub steps_of : Setting → List Entry → ℕ
 steps_of s journal = length (settled_model s.plan s.start journal)
 
--- the state of whatever journal a run stands for was written, or it has too many steps
+-- how many steps a run has come to by its engine's own count, those behind the state that it goes on from included
+abbrev pub counted : Keeping → ℕ
+counted kept = (times_of kept.state).steps
+
+-- the state of whatever journal a run stands for was written, or it has too many steps; its own count says so too, journal or not
 abbrev pub SavesState : CallEnd → List ℕ → Keeping → Type 0
 SavesState (Line line) specification kept = ⊥
 SavesState (Drilled line) specification kept = ⊥
 SavesState (Report text) specification kept =
-    (before journal : List Entry) → IsBehind before journal kept
-    → (steps_of (setting_in kept) journal ≤ most_steps) × (text ≡ state_text specification kept.state.plan (state_of kept.state.plan kept.state.given_start journal))
+    (counted kept ≤ most_steps)
+    × ((before journal : List Entry) → IsBehind before journal kept
+    → (steps_of (setting_in kept) journal ≤ most_steps) × (text ≡ state_text specification kept.state.plan (state_of kept.state.plan kept.state.given_start journal)))
 SavesState (Replayed end) specification kept = ⊥
 SavesState (Stated state_end.Unreadable) specification kept = ⊥
 SavesState (Stated (state_end.Damaged line)) specification kept = ⊥
 SavesState (Stated state_end.OtherSpecification) specification kept = ⊥
-SavesState (Stated state_end.TooManySteps) specification kept = (before journal : List Entry) → IsBehind before journal kept → most_steps < steps_of (setting_in kept) journal
+SavesState (Stated state_end.TooManySteps) specification kept =
+    (most_steps < counted kept) × ((before journal : List Entry) → IsBehind before journal kept → most_steps < steps_of (setting_in kept) journal)
 SavesState CutFault specification kept = ⊥
 SavesState Put specification kept = ⊥
 SavesState Memory specification kept = Unit {0}

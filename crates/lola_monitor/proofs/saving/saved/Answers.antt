@@ -6,5 +6,5 @@ use Rattle.lola_monitor.proofs.saving.saved.Goals as goal
 pub returns-in-Ok : goal.returns-in-Ok
 returns-in-Ok c =
     let e = c.engine-engine.result.now in
-    saves_text c.args.specification.now (keeping c.args.run.now) e.state e.store c.times.result c.engine-engine.ensures.state c.engine-engine.ensures.store c.times.ensures.reached c.in-Ok.text
+    saves_text c.args.specification.now (keeping c.args.run.now) e.state e.store c.times.result c.engine-engine.ensures.state c.engine-engine.ensures.store c.times.ensures.value c.times.ensures.reached c.in-Ok.text
     (few_of c.are_too_many.result c.times.result.steps most_steps c.are_too_many.ensures c.if-are_too_many.false) c.in-Ok.ensures
