@@ -11,6 +11,6 @@ pub record Kept : Type 0 where
 abbrev pub kept : List Value → ℕ → Kept
 kept values capacity = record { values = values; capacity = capacity }
 
--- the item that stands k places before the newest one, which is the last of the list
+-- what stands k places before the newest one, which is the last of the list
 abbrev pub before_newest : {X : Type 0} → ℕ → List X → Option X
 before_newest k xs = if nat_lt k (length xs) then slice_get xs (length xs - k - 1) else None

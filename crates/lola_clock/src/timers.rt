@@ -13,7 +13,7 @@ use std::alloc::Global;
 /// The moment after the latest time, which stands for all later ones.
 pub(crate) const TOO_LATE: u64 = 4_000_000_000_000_000_001;
 
-/// A rate, the moment of its first deadline that is not passed, and what it takes to step to the one behind that: what cutting the deadline
+/// A rate, the moment of its first deadline that is not passed, and what it takes to go to the one behind that: what cutting the deadline
 /// to whole nanoseconds left, and a period, in whole nanoseconds and in parts of one. As many parts as the rate's numerator are one.
 #[derive(Clone, Copy, Debug)]
 pub(crate) struct Timer {

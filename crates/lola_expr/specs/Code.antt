@@ -19,7 +19,7 @@ use Rattle.lola_expr.specs.declared.compile.Target.TheVariants as target
 use Rattle.lola_expr.specs.declared.compile.Joining.{Joining}
 use Rattle.lola_expr.specs.declared.compile.Joining.TheVariants as joins
 
--- of `&&` and `||` the right operand is evaluated where the left one does not decide, of the other signs both are
+-- of `&&` and `||` the right operand is evaluated where the left one does not decide, of the other operators both are
 abbrev pub joining : Binary → Joining
 joining binary.And = joins.WhereTrue
 joining binary.Or = joins.WhereFalse

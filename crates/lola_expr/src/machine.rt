@@ -214,7 +214,7 @@ fn run_code<S: StreamStore>(
 }
 
 /// What an expression comes to, whose code this is, for an instance with these parameters: the code is run, or the expression evaluated
-/// (`crate::evaluation::eval`) where the code wants more room than there is. It takes no memory and cannot fail.
+/// (`crate::evaluation::eval`) where the code wants more room than there is. It takes no memory and always has an outcome.
 pub fn run<S: StreamStore>(expr: &Expr, code: &[Instr], params: &Params, store: &S) -> Brief
     requires code { code.now ≡ code_of expr.now }
     requires running { IsRunning (S.seen store.now) }

@@ -2,8 +2,8 @@
 
 ghost use Rattle.lola_front_law.specs.Meaning.{EntriesAreSame, ModelsAreSame, OutcomesAreSame, StoresAreSame, VerdictsAreSame};
 
-/// Expressions that differ in addresses alone come to the same, whatever they see and whatever the parameters are: the same value,
-/// nothing, or the same fault. So it is under specifications that differ in addresses alone.
+/// Expressions that differ in addresses alone have the same outcome, whatever they see and whatever the parameters are. So it is under
+/// specifications that differ in addresses alone.
 pub fn outcomes_are_same()
     ensures { OutcomesAreSame }
 {}

@@ -1,4 +1,4 @@
-//! A whole stream is given what it comes to in a step.
+//! All instances of a stream are given what they come to in a step.
 
 ghost use Rattle.std.specs.Prelude.{◌≡◌, ◌<◌, ◌≤◌, ℕ, List, IsTrue, length, slice_get};
 ghost use Rattle.lola_value.specs.declared.text.Field.{Field};

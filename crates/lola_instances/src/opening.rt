@@ -185,7 +185,7 @@ fn spawning_of(alloc: Global, streams: &[Instances]) -> Result<Vec<usize>, Memor
 }
 
 impl BoundedStore {
-    /// A new store for the streams and windows of a plan, with all the memory that instances without a spawn clause will
+    /// A new store for the streams and windows of a plan, with all the memory that instances of streams without a spawn clause will
     /// ever take. It remembers that no instance has a value yet. Instances are looked up by their parameters under the keys of `hasher`,
     /// so that nobody who does not know them can choose parameters that collide.
     pub fn create(alloc: Global, hasher: RandomState, plan: &Plan) -> Result<BoundedStore, Memory>

@@ -18,7 +18,7 @@ pub record Extends (old new : List Bool) : Type 0 where
   pub more : ℕ
   pub bits : new ≡ old ++ replicate more false
 
--- each number is the sum of the next `width` items by a weight, and no item is left
+-- each number is the sum of the weights of the next `width` in the list, and none is left
 abbrev pub AreSums : {X : Type 0} → (X → ℕ) → ℕ → List ℕ → List X → Type 0
 AreSums f width [] xs = xs ≡ []
 AreSums f width (c ∷ cs) xs = (c ≡ sum_by f (take width xs)) × AreSums f width cs (drop width xs)

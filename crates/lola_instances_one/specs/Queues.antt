@@ -13,7 +13,7 @@ births_of queue = map (λ (e : Birth). e.born) queue
 abbrev pub AreInOrder : List Birth → Type 0
 AreInOrder queue = IsNonDecreasingBy (λ (e : Birth). e.due) queue
 
--- from a moment on until it is due, an entry's deadline is the next of its instance
+-- from a moment on until it is due, a birth's deadline is the next of its instance
 pub record IsEntry (rates : List Ratio) (passed : ℕ) (e : Birth) : Type 0 where
   pub are : AreRates rates
   pub next : (from : ℕ) → passed ≤ from → from ≤ e.due → due_at rates e.born from ≡ e.due
@@ -31,7 +31,7 @@ pub record HasBirths (births : List ℕ) (queue : List ℕ) : Type 0 where
   pub many : length births ≡ length queue
   pub same : (b : ℕ) → births_at b births ≡ births_at b queue
 
--- an entry of this birth was taken out
+-- a birth at this time was taken out
 pub record IsWithout (born : ℕ) (old new : List Birth) : Type 0 where
   pub place : ℕ
   pub within : place < length old

@@ -35,7 +35,7 @@ use std::alloc::Global;
 use std::marker::Model;
 
 /// An instance. Its outcome belongs to the step of a number, and is none of a later one, so that a step begins without a
-/// pass over the instances. A step's value is among the last values and in the panes as soon as it is told.
+/// pass over the instances. A step's value is among the last values and in the panes as soon as it is given.
 #[derive(Drop)]
 pub struct Instance {
     params: Params,
@@ -195,7 +195,7 @@ impl Instance {
         self.born
     }
 
-    /// The outcome in the step of this number, missing where it was told none.
+    /// The outcome in the step of this number, missing where it was given none.
     #[inline(always)]
     pub fn now(&self, step: u64) -> Brief
         ensures { result ≡ shown step self.now }
@@ -237,7 +237,7 @@ impl Instance {
     }
 
     /// The answer of the window at a place, `offset` after the start. It ends with a pane, and not before a value that
-    /// was told. It is poison where this step's outcome is.
+    /// was given. It is poison where this step's outcome is.
     pub fn window(&self, step: u64, place: usize, offset: u64) -> Outcome
         requires place { place < length self.now.panes }
         requires newest { MatchOption (slice_get self.now.panes place) ⊥ (λ p. p.newest ≤ offset) }
@@ -334,7 +334,7 @@ impl Instance {
         partial_at(&self.panes, place, k)
     }
 
-    /// It was told nothing later than in the step of this number, which is over, and nothing in it that is shown.
+    /// It was given nothing later than in the step of this number, which is over, and nothing in it that is shown.
     pub fn rest(&mut self, step: u64)
         ensures { self.new ≡ record self.old { stamp = step; outcome = outcome.Missing } }
     {

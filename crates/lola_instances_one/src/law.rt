@@ -11,7 +11,7 @@ ghost use Rattle.lola_instances_one.specs.Saved.{MayHaveHad};
 
 use crate::instance::Instance;
 
-/// An instance that was told nothing in a step remembers each list of values that it may have had.
+/// An instance that was given nothing in a step remembers each list of values that it may have had.
 pub fn silent_remembers(_instance: &Instance, _step: u64)
     requires { shown _step _instance.now ≡ outcome.Missing }
     ensures { (start time : ℕ) (names : Naming) (values : List (ℕ × Field)) → MayHaveHad start names _instance.now values → Remembers start time _step names _instance.now values }

@@ -12,7 +12,7 @@ use crate::queue::Birth;
 use lola_value::rate::Rate;
 use std::collections::VecDeque;
 
-// Whether an entry has a deadline at a moment. From a moment on its own is the next, until it is passed.
+// Whether a birth has a deadline at a moment. From a moment on its own is the next, until it is passed.
 fn is_entry_due(entry: Birth, rates: &[Rate], passed: u64, time: u64) -> bool
     requires right { IsEntry rates.now passed entry }
     requires in_time { time ≤ latest }
@@ -43,7 +43,7 @@ fn place_from(births: &[u64], from: usize, born: u64) -> usize
     }
 }
 
-/// Lists the places of the births that have a deadline at a moment, from the entries of the queue that are due first, and answers
+/// Lists the places of the births that have a deadline at a moment, from the births of the queue that are due first, and answers
 /// whether it could: where these do not come in the order of the births, the list says nothing.
 pub fn list_first(
     queue: &VecDeque<Birth>,

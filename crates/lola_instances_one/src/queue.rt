@@ -17,7 +17,7 @@ pub struct Birth {
     pub born: u64,
 }
 
-// Whether an entry stands before another: it is due earlier, or at the same moment and was born no later.
+// Whether a birth stands before another: it is due earlier, or at the same moment and is no later.
 fn stands_before(entry: Birth, other: Birth) -> bool
     ensures before { result ≡ true → entry.due ≤ other.due }
     ensures behind { result ≡ false → other.due ≤ entry.due }
@@ -25,7 +25,7 @@ fn stands_before(entry: Birth, other: Birth) -> bool
     entry.due < other.due || entry.due == other.due && entry.born <= other.born
 }
 
-// The place of an entry behind those that are due earlier, and among those that are due then in the order of births; it is found by
+// The place of a birth behind those that are due earlier, and among those that are due then in the order of births; it is found by
 // halves.
 fn place_of(queue: &VecDeque<Birth>, entry: Birth) -> usize
     requires { AreInOrder queue.now.items }
@@ -46,7 +46,7 @@ fn place_of(queue: &VecDeque<Birth>, entry: Birth) -> usize
     low
 }
 
-/// One more entry, in room that was made.
+/// One more birth, in room that was made.
 pub fn put(queue: &mut VecDeque<Birth>, entry: Birth)
     requires room { deque_len queue.old < deque_capacity queue.old }
     requires order { AreInOrder queue.old.items }
@@ -61,7 +61,7 @@ pub fn put(queue: &mut VecDeque<Birth>, entry: Birth)
     }
 }
 
-// Sets the first entry to its next deadline, where it was due before a moment.
+// Sets the first birth to its next deadline, where it was due before a moment.
 fn renew_first(queue: &mut VecDeque<Birth>, rates: &[Rate], moment: u64) -> bool
     requires { IsQueue rates.now moment queue.old.items }
     ensures queue { IsQueue rates.now moment queue.new.items }
@@ -82,7 +82,7 @@ fn renew_first(queue: &mut VecDeque<Birth>, rates: &[Rate], moment: u64) -> bool
     true
 }
 
-/// Sets each entry that was due before a moment to its next deadline.
+/// Sets each birth that was due before a moment to its next deadline.
 pub fn renew(queue: &mut VecDeque<Birth>, rates: &[Rate], moment: u64)
     requires { IsQueue rates.now moment queue.old.items }
     ensures queue { IsQueue rates.now moment queue.new.items }
@@ -96,7 +96,7 @@ pub fn renew(queue: &mut VecDeque<Birth>, rates: &[Rate], moment: u64)
     }
 }
 
-// The place of an entry with a birth.
+// The place of a birth at `born`.
 fn place_born(queue: &VecDeque<Birth>, born: u64) -> usize
     requires { Contains (births_of queue.now.items) born }
     ensures within { result < deque_len queue.now }
@@ -110,7 +110,7 @@ fn place_born(queue: &VecDeque<Birth>, born: u64) -> usize
     unreachable!()
 }
 
-// The place of an entry of this birth that is due then, if it is found at once.
+// The place of a birth at the time of this one that is due when it is, if it is found at once.
 fn place_due(queue: &VecDeque<Birth>, entry: Birth) -> Option<usize>
     requires { AreInOrder queue.now.items }
     ensures within { IfSome result (λ i. i < deque_len queue.now) }
@@ -128,7 +128,7 @@ fn place_due(queue: &VecDeque<Birth>, entry: Birth) -> Option<usize>
     }
 }
 
-// The place of an entry with a birth, first looked for where it stands if it is due then.
+// The place of a birth at `born`, first looked for where it stands if it is due at `due`.
 fn place_taken(queue: &VecDeque<Birth>, due: u64, born: u64) -> usize
     requires order { AreInOrder queue.now.items }
     requires born { Contains (births_of queue.now.items) born }
@@ -141,7 +141,7 @@ fn place_taken(queue: &VecDeque<Birth>, due: u64, born: u64) -> usize
     }
 }
 
-/// Takes an entry with a birth out. It is found quickly where it is due then.
+/// Takes a birth at `born` out. It is found quickly where it is due at `due`.
 pub fn take_out(queue: &mut VecDeque<Birth>, due: u64, born: u64)
     requires order { AreInOrder queue.old.items }
     requires born { Contains (births_of queue.old.items) born }
@@ -153,7 +153,7 @@ pub fn take_out(queue: &mut VecDeque<Birth>, due: u64, born: u64)
 }
 
 /// The first deadline that is not before `from`. What was due before a moment may stand in the queue for it still; from
-/// that moment on only the entries that are due before `from` are counted anew.
+/// that moment on only the births that are due before `from` are counted anew.
 pub fn least_from(queue: &VecDeque<Birth>, rates: &[Rate], passed: u64, from: u64) -> u64
     requires { IsQueue rates.now passed queue.now.items }
     ensures { result ≡ least_due rates.now from (births_of queue.now.items) }

@@ -10,7 +10,7 @@ use Rattle.lola_instances_one.specs.Holdings.{Holdings, shown}
 use Rattle.lola_instances_one.specs.Memories.{Remembers}
 use Rattle.lola_instances_one.specs.Telling.{ToldAll}
 
--- it was told a value in the step of a number, at an offset from the start
+-- it was given a value in the step of a number, at an offset from the start
 pub record HasTold (step offset : ℕ) (v : Value) (x y : Holdings) : Type 0 where
   pub params : y.params ≡ x.params
   pub born : y.born ≡ x.born

@@ -1,4 +1,4 @@
--- What holds of each item of a list.
+-- What holds of all that stands in a list.
 use Rattle.std.specs.Prelude.{ℕ, ◌≡◌, List, Some, slice_get}
 
 abbrev pub Each : {X : Type 0} → (X → Type 0) → List X → Type 0

@@ -7,7 +7,7 @@ use Rattle.lola_instances_one.specs.Telling.{AllReady}
 use Rattle.lola_instances_stream.specs.Cells.{IsSlotChanged}
 use Rattle.lola_instances_stream.specs.Changes.{WasPoisoned, HasTold}
 
--- an instance was given an outcome in the step of a number, at an offset from the start: a value was told, a fault or poison poisoned it,
+-- an instance was given an outcome in the step of a number, at an offset from the start: a value was added, a fault or poison poisoned it,
 -- and where there is none it is as it was
 abbrev pub HasGiven : ℕ → ℕ → Outcome → Holdings → Holdings → Type 0
 HasGiven step offset (outcome.Value v) x y = HasTold step offset v x y

@@ -22,7 +22,7 @@ pub record HasPanesRestored (last : ℕ) (parts : List Partial) (count place : �
   pub ring : y.ring ≡ x.ring
   pub panes : ArePanesChanged (WereRestored last parts count) place x.panes y.panes
 
--- it became another one, which was told nothing that is shown since the step of a number
+-- it became another one, which was given nothing that is shown since the step of a number
 pub record IsRested (step : ℕ) (R : Holdings → Holdings → Type 0) (x y : Holdings) : Type 0 where
   pub stamp : y.stamp ≡ step
   pub outcome : y.outcome ≡ outcomes.Missing

@@ -31,12 +31,12 @@ pub record IsTimely (kind : Kind) (step offset : ℕ) (s : Holdings) : Type 0 wh
   pub told : s.stamp ≡ step → IsTrue (not (is_silent s.outcome))
   pub given : AllGiven offset (s.stamp - 1) kind s.panes
 
--- it was told nothing
+-- it was given nothing
 pub record IsUntold (step : ℕ) (s : Holdings) : Type 0 where
   pub stamp_lt : s.stamp < step
   pub values : length s.ring.values ≡ 0
 
--- all of it; before the first step it was told nothing
+-- all of it; before the first step it was given nothing
 pub record SlotRight (layout : StreamLayout) (windows : List WindowPanes) (running : Bool) (step offset : ℕ) (s : Holdings) : Type 0 where
   pub steady : IsSteady layout windows s
   pub timely : IsTimely layout.kind step offset s

@@ -509,7 +509,7 @@ impl Instances {
             .give_together(rt, step, offset, outcomes, workers)
     }
 
-    /// Gives each instance what it comes to in this step, `offset` after the start, in order of birth: a value is told, a fault or poison
+    /// Gives each instance what it comes to in this step, `offset` after the start, in order of birth: a value is added, a fault or poison
     /// poisons it, and where there is none nothing happens. The instances are shared out among at most so many threads, as long as none
     /// of those that were closed left an empty place between them.
     pub fn give_each<R: Threads + Sync>(

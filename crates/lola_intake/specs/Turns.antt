@@ -1,4 +1,4 @@
--- The rule of a ticket lock, and what each step tells.
+-- The rule of a ticket lock, and what each play tells.
 -- Word 0 is the next ticket, and word 1 the ticket that is served. The object lies in the slot 0, or is out with the seat in turn.
 use Rattle.std.specs.Prelude.{◌≡◌, ◌≢◌, ℕ, ◌+◌, ◌%◌, ◌^◌, ◌<◌, ◌≤◌, ◌==◌, Bool, true, false, List, [], ◌∷◌, ◌++◌, length, cond, ◌⊎◌, Option, Some, None}
 use mathlib.Core.Option.{some}

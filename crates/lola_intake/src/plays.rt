@@ -1,4 +1,4 @@
-//! What each step tells its caller.
+//! What each play tells its caller.
 ghost use Rattle.lola_intake.specs.Turns.{drew, looked, left, one_more, newcomer, taking, gone};
 
 use crate::turns::{Object, Tells};

@@ -18,7 +18,7 @@ abbrev pub with_front : List Token → Cut → Cut
 with_front front (Ok ts) = Ok (front ++ ts)
 with_front front (Err r) = Err r
 
--- what stands at the place, and then the tokens behind it; the function is told how many bytes to leave out
+-- what stands at the place, and then the tokens behind it; the function is given how many bytes to leave out
 abbrev pub after : ℕ → Thing → (ℕ → Cut) → Cut
 after at (thing.Gap n) rest = rest (n - 1)
 after at (thing.Token shape n) rest = with_front (record { shape = shape; from = at; to = at + n } ∷ []) (rest (n - 1))

@@ -24,7 +24,7 @@ pub enum Offer {
     Closed(Row),
 }
 
-/// What became of asking for all pending rows.
+/// What became of taking all pending rows.
 #[derive(Clone, Copy, Debug, PartialEq, Eq)]
 pub enum Take {
     /// So many rows moved.

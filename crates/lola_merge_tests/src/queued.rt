@@ -64,7 +64,7 @@ fn fill<R: Wait + Abort>(
     }
 }
 
-// Finishes, which is refused so.
+// Finishes, which is not let in, and is answered so.
 fn refuse<R: Wait + Abort>(rt: &R, intake: &QueueIntake, seat: &mut QueueSeat, wanted: Finish)
     requires own { seat.old.intake ≡ intake.now }
     requires unfinished { seat.old.finished ≡ false }

@@ -6,13 +6,13 @@
 pub enum MalformedKind {
     /// No line at all, not one time column, an input named twice, or a second byte order mark.
     BadHeading = 1,
-    /// A row of another number of fields than the heading.
+    /// A line of another number of fields than the heading.
     FieldCount,
     /// A time field that is no time.
     BadTime,
     /// A field that is no value of its input's kind.
     BadValue,
-    /// A line that is not UTF-8, or a row that begins with a byte order mark.
+    /// A line that is not UTF-8, or one behind the heading that begins with a byte order mark.
     BadText,
     /// A carriage return that is not directly before the line's end.
     BareCr,

@@ -25,7 +25,7 @@ use lola_value::text::Memory;
 use lola_value::value::{Outcome, Params, Value};
 use std::thread::Threads;
 
-/// What became of a spawn.
+/// What became of an instance that a spawn clause names.
 #[derive(Clone, Copy, Debug, PartialEq, Eq)]
 pub enum SpawnEnd {
     /// The instance lives from this step on.

@@ -54,7 +54,7 @@ pub record SourcesWell (plan : Plan) (names : List (List ℕ)) (before after : O
   pub read : SourcesRead ends plan names before after
   pub none : first_malformed ends ≡ None
 
--- the least of them that is malformed is named
+-- the least of them that has a malformed line is named
 pub record SourcesMalformed (line : EndLine) (plan : Plan) (names : List (List ℕ)) (before after : Outside) : Type 0 where
   pub ends : List SourceEnd
   pub read : SourcesRead ends plan names before after
@@ -108,7 +108,7 @@ pub record AllReadWell (inputs : Inputs) (before after : ShelfState) : Type 0 wh
   pub read : AllReadTo ends inputs before after
   pub none : first_malformed ends ≡ None
 
--- the least that is malformed is this
+-- the least that has a malformed line is this
 pub record SomeReadMalformed (at : MalformedSource) (inputs : Inputs) (before after : ShelfState) : Type 0 where
   pub ends : List SourceEnd
   pub read : AllReadTo ends inputs before after
@@ -165,7 +165,7 @@ pub record IsWell (inputs : Inputs) (c : Call) : Type 0 where
   pub well : AllReadWell inputs c.before.shelf c.after.shelf
   pub out : Received c.before.out c.after.out
 
--- 4: all sources were given, nothing has failed, and the end line names the least that is malformed
+-- 4: all sources were given, nothing has failed, and the end line names the least that has a malformed line
 pub record HasMalformedSource (inputs : Inputs) (c : Call) : Type 0 where
   pub at : MalformedSource
   pub some : SomeReadMalformed at inputs c.before.shelf c.after.shelf

@@ -26,7 +26,7 @@ status_with UnreadableSpecification = 6
 status_with (UnreadableSource n) = 6
 status_with (Analysed s w) = 0
 
--- what a failed last line makes of a status
+-- what a failed put of the last line makes of a status
 abbrev pub status_without : EndLine → ℕ
 status_without (Done a l s v) = 7
 status_without Usage = 2
@@ -48,7 +48,7 @@ status_replayed (Found finding) = status_found finding
 status_replayed UnreadableTrace = 6
 status_replayed UnreadableVerdicts = 6
 
--- what a failed last line makes of it
+-- what a failed put of the last line makes of it
 abbrev pub status_found_without : Finding → ℕ
 status_found_without (Same entries lines) = 7
 status_found_without (TraceDiffers line) = 1

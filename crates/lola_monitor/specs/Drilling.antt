@@ -113,7 +113,7 @@ pub record IsRefusedDrill (c : Call) : Type 0 where
   pub trace : IsUntraced c
   pub out : Wrote c.before.out c.after.out (end_text (Refused refusal))
 
--- 4: that of one with a malformed source
+-- 4: that of one with a malformed line in a source
 pub record IsMalformedDrill (c : Call) : Type 0 where
   pub of : DrillIn c
   pub line : EndLine
@@ -129,7 +129,7 @@ pub record IsFaultyDrill (c : Call) : Type 0 where
   pub trace : IsUntraced c
   pub out : Wrote c.before.out c.after.out (end_text line)
 
--- 7: the put of the end line failed, of a drill that ends well or with a malformed source
+-- 7: the put of the end line failed, of a drill that ends well or has a malformed line in a source
 pub record IsCutDrill (c : Call) : Type 0 where
   pub of : DrillIn c
   pub line : EndLine

@@ -105,7 +105,7 @@ pub record AllEnd (shelf : ShelfState) (plan : Plan) (sources : List (List ℕ))
   pub many : length ends ≡ length sources
   pub each : (s : ℕ) (name : List ℕ) (end : SourceEnd) → slice_get sources s ≡ Some name → slice_get ends s ≡ Some end → Ends (shelf.told name) plan s (rows_of s journal) end
 
--- a source that ends malformed, at a row
+-- a source, and where its malformed line stands
 pub record MalformedSource : Type 0 where
   pub source : ℕ
   pub row : ℕ
@@ -115,7 +115,7 @@ pub record MalformedSource : Type 0 where
 abbrev pub one_further : MalformedSource → MalformedSource
 one_further m = record m { source = m.source + 1 }
 
--- the least source that ends malformed
+-- the least source that ends at a malformed line
 abbrev pub first_malformed : List SourceEnd → Option MalformedSource
 first_malformed [] = None
 first_malformed (MalformedAt kind row ∷ ends) = Some (record { source = 0; row = row; kind = kind })

@@ -122,7 +122,7 @@ pub record DoneRun (front : List Entry) (in_turns : Bool) (line : EndLine) (s : 
   pub rows : (n : ℕ) (name : List ℕ) → slice_get names n ≡ Some name → Ends (before.shelf.told name) s.plan n (rows_of n ended.run.journal) Whole
   pub line_is : line ≡ done_line_behind s front ended.run.journal
 
--- the least that is malformed is named
+-- the least that has a malformed line is named
 pub record MalformedRun (front : List Entry) (in_turns : Bool) (line : EndLine) (s : Setting) (names : List (List ℕ)) (before after : Outside) : Type 0 where
   pub ended : EndedRun front in_turns s names before after
   pub ends : List SourceEnd
@@ -322,12 +322,12 @@ source_end (Some finish.ReadFailed) = Whole
 source_end (Some finish.Closed) = Whole
 source_end (Some finish.Memory) = Whole
 
--- how sources end together where this one ends malformed
+-- how sources end together where this one ends at a malformed line
 abbrev pub malformed_at : ℕ → SourceEnd → Option SourcesEnd
 malformed_at source Whole = None
 malformed_at source (MalformedAt kind row) = Some (sources_end.Malformed source row kind)
 
--- the least malformed source
+-- the least source with a malformed line
 abbrev pub malformed_by : Option MalformedSource → SourcesEnd
 malformed_by None = sources_end.Whole
 malformed_by (Some m) = sources_end.Malformed m.source m.row m.kind

@@ -106,7 +106,7 @@ pub record LongRows (front : List Entry) (s : Setting) (names : List (List ℕ))
   pub whole : WholeRows front s names before after
   pub many : most_steps < steps_of s (front ++ whole.ended.taken.run.journal)
 
--- the least of them that is malformed is named
+-- the least of them that has a malformed line is named
 pub record MalformedRows (line : EndLine) (front : List Entry) (s : Setting) (names : List (List ℕ)) (before after : ShelfState) : Type 0 where
   pub ended : RowsEnded front s names before after
   pub ends : List SourceEnd

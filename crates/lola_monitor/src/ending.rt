@@ -16,7 +16,7 @@ use lola_value::text::{Memory, Text};
 use lola_value::value::FaultKind;
 use std::alloc::Global;
 
-/// How the sources of a run ended together. A failed read comes before a malformed line, and of several the least is told.
+/// How the sources of a run ended together. A failed read comes before a malformed line, and of several the least is named.
 #[derive(Clone, Copy, Debug, PartialEq, Eq)]
 pub enum SourcesEnd {
     /// Each source ended well.

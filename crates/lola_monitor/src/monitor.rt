@@ -203,7 +203,7 @@ fn work<R: Threads + Wait + Sync, F: Shelf, K: Sink, T: Sink, G: Gate + Sync>(
 /// | 4 | all rows of all sources were taken up to their malformed lines; the least source that has one is named. Trace, verdicts and end line were put |
 /// | 5 | a row, a deadline before it, or the deadline at the last stamp has a fault; whether or not what is put to `out` from then on fails |
 /// | 6 | the specification was not given or read, or a state, or the trace or the verdicts of a replay, and nothing is traced; or a source was not given, and no row was taken; or it could not be read, and all rows of the other sources were taken. The least of them is named |
-/// | 7 | a put failed, and no fault was met before: within a trace line, and `out` has the verdicts of all rows before it; or within the verdicts of the last row or of the deadlines at the last stamp, and the trace is whole; or within the end line of a run that is done or has a malformed source, or of an analysis, a drill or a replay |
+/// | 7 | a put failed, and no fault was met before: within a trace line, and `out` has the verdicts of all rows before it; or within the verdicts of the last row or of the deadlines at the last stamp, and the trace is whole; or within the end line of a run that is done or has a source with a malformed line, or of an analysis, a drill or a replay |
 /// | 8 | there is no memory: nothing was put, or the trace has the lines of the rows that were taken, and `out` a front of their verdicts; no end line |
 /// | 9 | the state that a run or a snapshot goes on from was read and is refused: it is damaged, or of another specification; nothing is traced. Or a snapshot has more steps than a state can have |
 ///

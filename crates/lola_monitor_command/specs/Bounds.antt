@@ -1,4 +1,4 @@
--- The bounds of what a command is told.
+-- The bounds of what is said of a command.
 use Rattle.std.specs.Prelude.{◌≤◌, IfSome, length, ⊤}
 use Rattle.lola_value.specs.Times.{latest}
 use Rattle.lola_monitor_command.specs.declared.command.Command.{Command}
@@ -26,7 +26,7 @@ pub record IsDrillInBounds (d : DrillCommand) : Type 0 where
   pub rows : (1 ≤ d.rows) × (d.rows ≤ 1000000)
   pub workers : (1 ≤ d.workers) × (d.workers ≤ 64)
 
--- what a command is told is in its bounds; an analysis has none
+-- what is said of a command is in its bounds; an analysis has none
 abbrev pub IsInBounds : Command → Type 0
 IsInBounds (command.Run r) = IsRunInBounds r
 IsInBounds (command.Analyse specification) = ⊤

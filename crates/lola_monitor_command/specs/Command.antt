@@ -224,7 +224,7 @@ abbrev pub of_said : (List Said → Option Command) → Option (List Said) → O
 of_said f None = None
 of_said f (Some ss) = f ss
 
--- the words: the program's name, the command, and what it is told
+-- the words: the program's name, the command, and what is said of it
 abbrev pub command_of : List Word → Option Command
 command_of (program ∷ word ∷ words) =
     if bytes_eq word (codes "run") then of_said run_of (said_from false 2 words)

@@ -1,4 +1,4 @@
--- The order in which a run, a replay and a snapshot are told what they are told.
+-- The order in which words say what they say of a run, a replay and a snapshot.
 use Rattle.std.specs.Prelude.{◌≡◌, ◌≤◌, ◌↔◌, ◌⊎◌, List, ◌∷◌, ◌++◌, Some, None, Bool, true, false, length, map}
 use Rattle.std.specs.List.{list_all}
 use Rattle.lola_monitor_command.specs.Command.{come_once, suit_replay, suit_snapshot, show_said, workers_said, start_said, in_turns_said, intake_said, state_said, run_of, replay_of, snapshot_of}

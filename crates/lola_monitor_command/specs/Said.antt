@@ -95,7 +95,7 @@ abbrev pub with_front : List Said → Option (List Said) → Option (List Said)
 with_front front None = None
 with_front front (Some ss) = Some (front ++ ss)
 
--- what a thing says, and then the words behind it; the function is told whether the next word belongs to it
+-- what a thing says, and then the words behind it; the function is given whether the next word belongs to it
 abbrev pub after : ℕ → List Word → WordSense → (Bool → Option (List Said)) → Option (List Said)
 after at ws thing.Dashes rest = Some (names_from (at + 1) ws)
 after at ws (thing.Says s takes_next) rest = with_front (s ∷ []) (rest takes_next)

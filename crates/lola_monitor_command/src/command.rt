@@ -23,7 +23,7 @@ use std::alloc::Global;
 /// Numbers of words of the command line, from 0 for the program's name.
 pub type WordNumbers = ListOf<usize>;
 
-/// What a run is told.
+/// What the words say of a run.
 #[derive(Drop)]
 pub struct RunCommand {
     /// The word that names the specification.
@@ -38,13 +38,13 @@ pub struct RunCommand {
     pub start: Option<u64>,
     /// Whether the sources are read in turns on one thread.
     pub in_turns: bool,
-    /// What the sources hand their rows in at unless they are read in turns; the lock where nothing is said.
+    /// What the sources hand their rows in at unless they are read in turns; the lock's intake where nothing is said.
     pub intake: IntakeKind,
     /// The saved state from which the run goes on, if one is named; then `start` is none.
     pub state: Option<NamePlace>,
 }
 
-/// What a snapshot is told: a run that ends with its state, which is saved.
+/// What the words say of a snapshot: a run that ends with its state, which is saved.
 #[derive(Drop)]
 pub struct SnapshotCommand {
     /// The word that names the specification.
@@ -57,7 +57,7 @@ pub struct SnapshotCommand {
     pub state: Option<NamePlace>,
 }
 
-/// What a drill is told.
+/// What the words say of a drill.
 #[derive(Clone, Copy, Debug, PartialEq, Eq)]
 pub struct DrillCommand {
     /// The number that all rows come from, at most 2147483646.
@@ -68,7 +68,7 @@ pub struct DrillCommand {
     pub workers: u32,
 }
 
-/// What a replay is told.
+/// What the words say of a replay.
 #[derive(Clone, Copy, Debug, PartialEq, Eq)]
 pub struct ReplayCommand {
     /// The word that names the specification.

@@ -17,7 +17,7 @@ use Rattle.lola_monitor_run.specs.Running.{Keeping, Writes}
 use Rattle.lola_monitor_run.specs.Rounds.{AreFirst}
 use Rattle.lola_monitor_run.specs.declared.stop.Stop.{Stop}
 
--- what is known of a source: the rows still to come where it tells its bytes, how many were handed in, its faults, a bound on
+-- what is known of a source: the rows still to come where it tells its bytes, how many were handed in, its failures, a bound on
 -- the rows still to come, and how it ended
 pub record Supply : Type 0 where
   pub rest : Option SourceRows

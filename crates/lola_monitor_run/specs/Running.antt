@@ -116,7 +116,7 @@ pub record RanRow (row : Row) (old new : Keeping) (text : List ℕ) : Type 0 whe
 abbrev pub FaultOfRow : Row → Keeping → Keeping → List ℕ → RunFault → Type 0
 FaultOfRow row old new text fault = AcceptsRow (Err (engine_end.Fault fault.stream fault.kind fault.time)) row old new text
 
--- the lines of a row are there: it was run, or has a fault
+-- the lines of a row are there: it was run, or a step of it has a fault
 abbrev pub HasText : Row → Keeping → Keeping → List ℕ → Type 0
 HasText row old new text = RanRow row old new text ⊎ ((fault : RunFault) × FaultOfRow row old new text fault)
 

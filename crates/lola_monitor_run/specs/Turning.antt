@@ -121,14 +121,14 @@ pub record Passed (s : ℕ) (old new : World) : Type 0 where
   pub out_of : SatOut s old.sources new.sources
   pub only : OnlySources old new
 
--- a row was taken and traced, and has a fault
+-- a row was taken and traced, and a step of it has a fault
 pub record SawFault (fault : RunFault) (s : ℕ) (old new : World) : Type 0 where
   pub entry : Entry
   pub traced : Traced s entry old new
   pub accepted : IsAccepted entry
   pub runs : (before journal : List Entry) → IsBehind before journal old.kept → FaultNext fault journal entry old.kept old.out new.out
 
--- a row was taken and traced, and has a fault, the lines before which were cut short
+-- a row was taken and traced, and a step of it has a fault, the lines before which were cut short
 pub record SawCutFault (fault : RunFault) (s : ℕ) (old new : World) : Type 0 where
   pub entry : Entry
   pub traced : Traced s entry old new

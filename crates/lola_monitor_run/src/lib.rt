@@ -1,4 +1,4 @@
-//! A run: rows that are marked, traced and evaluated by an engine, whose verdicts are put; and the run of sources that are read in
+//! A run: rows that are marked, traced and run by an engine, whose verdicts are put; and the run of sources that are read in
 //! turns by one thread, round after round. And, for laws, an engine behind whatever order of turns.
 //!
 //! Promised: whatever journal a run stands for, a row takes it to that journal with the row: its trace line, its verdicts, its

@@ -149,7 +149,7 @@ pub fn run_out<R: Threads + Sync, K: Sink, G: Gate + Sync>(
     run.finish(rt, out, gate)
 }
 
-// Runs all rows of the sources of a feed, and then the deadlines at the last stamp, unless a row has a fault or the run was cut
+// Runs all rows of the sources of a feed, and then the deadlines at the last stamp, unless a step has a fault or the run was cut
 // short.
 fn run_whole<R: Threads + Sync, S: Source, K: Sink, T: Sink, G: Gate + Sync>(
     rt: &R,
@@ -176,10 +176,10 @@ fn run_whole<R: Threads + Sync, S: Source, K: Sink, T: Sink, G: Gate + Sync>(
     }
 }
 
-/// Runs all rows of sources, which are read in turns, and then the deadlines at the last stamp, unless a row has a fault or the run was
+/// Runs all rows of sources, which are read in turns, and then the deadlines at the last stamp, unless a step has a fault or the run was
 /// cut short. The run is new or goes on: whatever journal others had taken, the rows come behind it, and the deadlines at its last stamp
 /// are still to be run, also where no row comes.
-/// `start` is the time that was merged: the stamp of the last accepted row, or else the start. The workers come back as their turns
+/// `start` is the merged time: the stamp of the last accepted row, or else the start. The workers come back as their turns
 /// left them.
 pub fn resume_in_turns<R: Threads + Sync, S: Source, K: Sink, T: Sink, G: Gate + Sync>(
     rt: &R,
@@ -214,7 +214,7 @@ pub fn resume_in_turns<R: Threads + Sync, S: Source, K: Sink, T: Sink, G: Gate +
 
 /// Runs all rows of sources, which are read in turns, and leaves the deadlines at the last stamp to be run by others, who go on from the
 /// state that the run has come to. The run has begun or goes on: whatever journal others had taken, the rows come behind it. `start` is
-/// the time that was merged: the stamp of the last accepted row, or else the start. The workers come back as their turns left them.
+/// the merged time: the stamp of the last accepted row, or else the start. The workers come back as their turns left them.
 pub fn rows_in_turns<R: Threads + Sync, S: Source, K: Sink, T: Sink, G: Gate + Sync>(
     rt: &R,
     alloc: Global,

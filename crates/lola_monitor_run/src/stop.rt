@@ -7,7 +7,7 @@ use lola_value::value::FaultKind;
 /// What ends a run before its sources have ended.
 #[derive(Clone, Copy, Debug, PartialEq, Eq)]
 pub enum Stop {
-    /// A step has a fault: the stream, its kind, and the step's time in nanoseconds.
+    /// A step has a fault: the stream, the fault's kind, and the step's time in nanoseconds.
     Fault {
         stream: u32,
         kind: FaultKind,

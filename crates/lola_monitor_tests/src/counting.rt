@@ -10,8 +10,8 @@ use std::test::Fail;
 use std::thread;
 use std::thread::Threads;
 
-/// Counts tasks, turns of sources, and steps over a store whose memory is bounded and over any other; holds each task until the sources
-/// have begun so many turns, for a million turns of waiting, and notes whether they had.
+/// Counts tasks, turns of sources, and steps over a bounded store and over any other; holds each task until the sources
+/// have begun so many turns, for a million rounds of waiting, and notes whether they had.
 #[derive(Drop)]
 struct CountingGate {
     wanted: u32,
@@ -57,7 +57,7 @@ impl Gate for CountingGate {
     }
 }
 
-/// How a run of one source ends, the tasks and the steps over bounded memory, and the other steps.
+/// How a run of one source ends, the tasks and the steps over a bounded store, and the other steps.
 fn counted<R: Threads + Wait + Sync>(
     rt: &R,
     alloc: Global,
@@ -82,8 +82,8 @@ fn counted<R: Threads + Wait + Sync>(
     ))
 }
 
-/// Where a condition gives parameters their values, the instance with these values alone is asked, and else all are. Each step is one of
-/// bounded memory.
+/// Where a condition gives parameters their values, the instance with these values alone is asked, and else all are. Each step is one
+/// over a bounded store.
 #[test]
 fn those_that_are_asked(rt: HostRuntime) -> Result<(), Fail> {
     let two = "time,a,s\n1,1,p\n2,1,q\n3,2,p\n4,1,q\n5,2,p\n";

@@ -9,7 +9,7 @@ use std::sync::atomic::{AtomicBool, Ordering};
 use std::thread;
 use std::thread::Threads;
 
-/// Holds the first task, or the first turn of source 0, until the other one has come, for so many turns, and notes whether it did in time.
+/// Holds the first task, or the first turn of source 0, until the other one has come, for so many rounds of waiting, and notes whether it did.
 #[derive(Drop)]
 struct MeetingGate {
     turns: u32,
@@ -53,7 +53,7 @@ impl Gate for MeetingGate {
 /// Two streams of one layer.
 const PAIR: &str = "input a: Int64\noutput p: Int64 := a + 1\noutput q: Int64 := a + 2";
 
-/// Whether two tasks, or two sources, of a run meet within so many turns.
+/// Whether two tasks, or two sources, of a run meet within so many rounds of waiting.
 fn meet<R: Threads + Wait + Sync>(
     rt: &R,
     alloc: Global,

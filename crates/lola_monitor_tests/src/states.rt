@@ -22,8 +22,8 @@ const CUT: &str =
 const LONGEST: &str =
     "lolamon-state 1\nspec 61\ninput a: Int64\noutput b: Int64 := a + 1\ntrigger b > 2 \"high\"\n\nstart 0.000000000\nlast 0.000000000\nsteps 4611686018427387904\nstream 0 1\ninst -\nring 1\nstream 1 1\ninst -\nring 2\nstream 2 1\ninst -\nring false\nend\n";
 
-/// A snapshot puts the state and nothing else. Where it would have too many steps, or its source is malformed or not given, it puts an end
-/// line. Words, first, second, status, output.
+/// A snapshot puts the state and nothing else. Where it would have too many steps, or its source has a malformed line or is not given, it
+/// puts an end line. Words, first, second, status, output.
 #[test]
 fn snapshots(rt: HostRuntime) -> Result<(), Memory> {
     let table: [(&[&str], &str, &str, u8, &str); 4] = [

@@ -127,7 +127,7 @@ fn is_operand(kind: Kind, number: i128) -> bool
     is_number(kind) && least <= number && number <= most
 }
 
-// Whether a trace line can tell a text: it is UTF-8, not empty, not the sign of an absent field, and in one line.
+// Whether a trace line can tell a text: it is UTF-8, not empty, not the `#` of an absent field, and in one line.
 fn is_traceable(text: &[u8]) -> bool
     ensures { IsTrue result ↔ IsTraceableText text.now }
 {

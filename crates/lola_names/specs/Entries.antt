@@ -1,4 +1,4 @@
--- The entries of a list of texts.
+-- The texts of a list.
 use Rattle.std.specs.Prelude.{ℕ, List, map, Vec}
 use Rattle.std.specs.declared.alloc.Global.{Global}
 

@@ -1,4 +1,4 @@
--- The steps of resolving an expression.
+-- The parts of resolving an expression.
 use Rattle.std.specs.Prelude.{ℕ, ◌≡◌, List, [], ◌∷◌, Option, Some, false, slice_get}
 use Rattle.lola_parser_grammar.specs.declared.literals.Name.{Name}
 use Rattle.lola_parser_grammar.specs.declared.declarations.Declaration.{Declaration}

@@ -1,4 +1,4 @@
--- The entries of a table of names.
+-- The names of a table.
 use Rattle.std.specs.Prelude.{ℕ, List, map, Vec}
 use Rattle.std.specs.declared.alloc.Global.{Global}
 

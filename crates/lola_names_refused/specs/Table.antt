@@ -3,7 +3,7 @@ use Rattle.std.specs.Prelude.{ℕ, List, [], ◌∷◌, ◌++◌, Option, Some, 
 use Rattle.lola_value.specs.Arithmetic.{bytes_equal}
 use Rattle.lola_parser_grammar.specs.declared.literals.Name.{Name}
 
--- what a name means; of several entries the first counts
+-- what a name means; where it stands more than once the first counts
 abbrev pub meaning_in : {M : Type 0} → List (List ℕ × M) → List ℕ → Option M
 meaning_in [] text = None
 meaning_in (e ∷ es) text = if bytes_equal text e.0 then Some e.1 else meaning_in es text

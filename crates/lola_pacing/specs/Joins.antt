@@ -1,4 +1,4 @@
--- One step of joining the pacings of leaves.
+-- One more of the pacings of leaves, joined.
 use Rattle.std.specs.Prelude.{◌≡◌, List, [], ◌∷◌, Result, Ok}
 use Rattle.lola_model.specs.declared.pacing.InputSet.{InputSet}
 use Rattle.lola_pacing_normal.specs.Least.{AnswersLeast}

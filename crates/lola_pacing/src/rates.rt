@@ -39,7 +39,7 @@ fn rate_at(findings: &[FoundPacing], stream: u32) -> Option<Rate>
     }
 }
 
-/// The lesser of two rates, of which some may be missing.
+/// The lesser of two rates, if they are there.
 fn lesser(least: Option<Rate>, next: Option<Rate>) -> Option<Rate>
     ensures { (rates : List Ratio) → IsLeastOf rates least → IsLeastOf (rates ++ list_of next) result }
 {

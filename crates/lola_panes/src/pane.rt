@@ -20,7 +20,7 @@ pub struct Pane {
     pub extreme: i128,
 }
 
-/// The number of the pane that holds an offset.
+/// The number of the pane in which an offset lies.
 pub fn pane_number(offset: u64, pane: u64) -> u64
     requires { 1 ≤ pane }
     ensures { result ≡ number_at pane offset }

@@ -110,7 +110,7 @@ fn has_left(ring: &HeapCircularBuffer<Pane>, place: usize, count: u32, k: u64) -
 }
 
 // A place from the first one on and before the last: as far behind the first as that lies behind the front, at most half way. So
-// what stands near the front is found in few steps.
+// what stands near the front is found soon.
 fn place_between(low: usize, high: usize) -> usize
     requires { low < high }
     ensures from { low ≤ result }

@@ -1,4 +1,4 @@
--- How an expression is recognized in turns: each takes one part of what is still to be read, and what the next tokens show
+-- How an expression is recognized in rounds: each takes one part of what is still to be read, and what the next tokens show
 -- of it. What it then means, is said by the grammar.
 use Rattle.std.specs.Prelude.{◌≡◌, ℕ, if◌then◌else◌, List, [], ◌∷◌, drop, codes, Option, Some, None}
 use Rattle.lola_lexer.specs.declared.shape.TokenShape.{TokenShape}

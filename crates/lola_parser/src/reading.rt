@@ -1,4 +1,4 @@
-//! The entry point.
+//! The call that reads a specification.
 
 ghost use Rattle.std.specs.Prelude.{◌≡◌, ◌≢◌, ℕ, List, ◌∷◌, ◌++◌, ◌<◌, ◌≤◌, ◌^◌, length, take, drop, slice_index_or, IfOk, MatchOption};
 ghost use Rattle.lola_parser_grammar.specs.Syntax.{Lexeme};

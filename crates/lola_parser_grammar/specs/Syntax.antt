@@ -13,7 +13,7 @@ pub record Lexeme : Type 0 where
   pub from : ℕ
   pub to : ℕ
 
--- what a token may be asked to be: of a shape, or a name spelled so, or a name that is none of these
+-- what a token may have to be: of a shape, or a name spelled so, or a name that is none of these
 pub data Terminal : Type 0 where
   Of : TokenShape → Terminal
   Word : List ℕ → Terminal

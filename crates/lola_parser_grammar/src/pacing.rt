@@ -1,4 +1,4 @@
-//! Pacings: when a clause is looked at.
+//! Pacings: when a clause is evaluated.
 
 use crate::literals::{Name, Quantity};
 use sqlite_items::Boxed;

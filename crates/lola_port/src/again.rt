@@ -26,7 +26,7 @@ pub fn read_some<F: Read>(file: &mut F, buf: &mut [u8]) -> io::Result<usize>
     Err(io::Error::from(ErrorKind::TimedOut))
 }
 
-/// Whether all bytes were taken. A write that takes nothing is a fault, as an end of the stream is.
+/// Whether all bytes were taken. A write that takes nothing is a failure: what is written to has ended.
 pub fn put_all<W: Write, C: Clock>(writer: &mut W, clock: &C, bytes: &[u8]) -> bool {
     let mut rest = bytes;
     while !rest.is_empty() {

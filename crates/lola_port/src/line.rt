@@ -5,7 +5,7 @@
 pub enum Line {
     /// Nothing, at the very start, where a byte order mark is dropped.
     Start,
-    /// The first byte of such a mark, or the first two: they are text where the others do not follow.
+    /// The first byte of a byte order mark, or the first two: they are text where the others do not follow.
     ByteOrderMark,
     ByteOrderMarkGoesOn,
     Nothing,

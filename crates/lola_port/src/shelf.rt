@@ -74,7 +74,7 @@ impl MemoryShelf {
         }
     }
 
-    /// Stores the bytes of a name that is new to the shelf. Reads of its sources give at most `piece` bytes, and those
+    /// Keeps the bytes of a name that is new to the shelf. Reads of its sources give at most `piece` bytes, and those
     /// with the numbers of `fails`, from 0, fail. Where there is no memory the shelf is as it was.
     pub fn add(&mut self, name: &str, bytes: &[u8], piece: u32, fails: &[u64]) -> Result<(), Memory>
         requires some { 1 ≤ piece }

@@ -30,7 +30,7 @@ struct Desk {
 }
 
 impl Desk {
-    // The next task, once there is one. None where the desk was closed.
+    // The next work, once there is some. None where nothing will be asked any more.
     fn wait_for_task<R: Wait>(&self, rt: &R) -> Option<Task> {
         let mut asked = self.asked.lock(rt);
         for _ in rt.forever() {
@@ -45,7 +45,7 @@ impl Desk {
         unreachable!()
     }
 
-    // Says whether there is a thread for the task.
+    // Says whether there is a thread for the work.
     fn answer<R: Wait>(&self, rt: &R, is_started: bool) {
         self.asked.lock(rt).answer = Some(is_started);
         self.changed.notify_all();
@@ -75,7 +75,7 @@ impl Desk {
     }
 }
 
-// Starts a thread for a task, and says whether that went well.
+// Starts a thread for this work, and says whether that went well.
 fn start<R: Threads + Wait + Clone + Send + Drop + 'static>(rt: &R, task: Task) -> bool {
     let Ok(own) = rt.clone() else {
         return false;
@@ -84,7 +84,7 @@ fn start<R: Threads + Wait + Clone + Send + Drop + 'static>(rt: &R, task: Task) 
     Builder::new().stack_size(STACK).spawn(rt, work).is_ok()
 }
 
-// What the thread does: it starts a thread for each task, until its desk is closed.
+// What the thread does: it starts a thread for all work that it is asked for, until nothing will be asked any more.
 fn serve<R: Threads + Wait + Clone + Send + Drop + 'static>(rt: &R, desk: &Desk) {
     for _ in rt.forever() {
         let Some(task) = desk.wait_for_task(rt) else {
@@ -159,7 +159,7 @@ impl<R: Wait + Drop> Asker<R> {
         &self.rt
     }
 
-    // Has a task done on a thread of its own, and says whether there is one.
+    // Has this work done on a thread of its own, and says whether there is one.
     pub(crate) fn start(&self, task: Task) -> bool {
         self.desk.ask(&self.rt, task)
     }

@@ -1,6 +1,6 @@
 //! The outside as the monitor sees it: where bytes come from, where lines go, and hooks for tests. Each source, shelf
 //! and sink has a count of its failures, which never falls and rises with each call that answers a failure; it ends at
-//! the greatest u64. An object may tell its content: those in memory do, files and streams do not.
+//! the greatest u64. An object may tell its content: those in memory do, files and standard streams do not.
 
 ghost use Rattle.std.specs.Prelude.{◌≡◌, ◌<◌, length, take, IfOk, OnOk, OnErr, IsErrOf};
 ghost use Rattle.std.specs.Io.{ReadsAtMost};
@@ -130,6 +130,6 @@ pub trait Gate {
     /// The worker of a source, numbered from 0, begins a turn.
     fn source_turn(&self, source: u32);
 
-    /// The engine is done with a step, over a store whose memory is bounded or not.
+    /// The engine is done with a step, over a bounded store or over another.
     fn step_done(&self, bounded: bool);
 }

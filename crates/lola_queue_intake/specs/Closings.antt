@@ -1,4 +1,4 @@
--- The rule of the closing word, and what each step at it tells.
+-- The rule of the closing word, and what each look at it and its write tell.
 -- The word is 1 exactly where the taker, whose seat is the seat 0, has closed.
 use Rattle.std.specs.Prelude.{◌≡◌, ◌≢◌, ℕ, ◌+◌, ◌<◌, Bool, true, false, [], ◌∷◌, ◌++◌, Some, slice_get}
 use mathlib.Core.Option.{some}

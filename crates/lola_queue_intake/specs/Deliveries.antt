@@ -94,11 +94,11 @@ with_returned v w = record v { known = v.known ++ known_of w ∷ [] }
 abbrev pub spent : View
 spent = record { role = Returned; mine = []; made = 0; known = [] }
 
--- after a step of its own, with this item
+-- after it has queued or popped this item
 abbrev pub with_item : View → Item → View
 with_item v x = record v { mine = v.mine ++ x ∷ [] }
 
--- after steps of its own, with these items
+-- after it has queued or popped these items
 abbrev pub with_items : View → List Item → View
 with_items v xs = record v { mine = v.mine ++ xs }
 

@@ -62,7 +62,7 @@ taker_shown queue word sources start popped empty closed = record {
   closed = closed;
 }
 
--- a source's seat that was told nothing
+-- a source's seat before its first call
 abbrev pub new_source : IntakeId → ℕ → SourceShown
 new_source id source = record { intake = id; source = source; queued = []; finished = false; closed = 0; full = 0 }
 

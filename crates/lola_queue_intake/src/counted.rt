@@ -1,7 +1,7 @@
-//! Passes that count what they were refused.
+//! Passes that count how often they found the queue full or empty.
 //!
 //! The functions here are proved for every rule of a queue, and so without knowing one: that a queue was full or empty
-//! at a moment of a call can be had from a step of the queue alone, and so a count rises only where such a step found it.
+//! at a moment of a call can be had from the queue alone, and so a count rises only where it was found so.
 
 ghost use Rattle.std.specs.Prelude.{◌≡◌, ◌+◌, List, MatchOption, MatchResult};
 ghost use Rattle.crossbeam_queue.specs.Fifo.{Pushes, Pops, Learns, Held};

@@ -27,7 +27,7 @@ pub struct Known {
 /// What a pass knows. No value of it is made.
 pub struct View {
     pub role: Role,
-    /// The items of its own steps, in order: those that a source queued, and those that the taker popped.
+    /// Its own items, in order: those that a source queued, and those that the taker popped.
     pub mine: LinkedList<Item>,
     /// Of the taker: how many sources there are.
     pub made: u64,

@@ -29,7 +29,7 @@ use std::alloc::Global;
 use std::marker::Model;
 use std::sync::Wait;
 
-/// A bounded queue of rows and finishes, and the closing word. Contracts see which intake it is.
+/// A queue of rows and finishes, and the closing word. Contracts see which intake it is.
 #[derive(Drop)]
 pub struct QueueIntake {
     queue: ItemQueue,

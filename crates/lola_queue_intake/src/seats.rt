@@ -1,4 +1,4 @@
-//! Seats, as contracts see them. What they show of their steps takes no memory but for the counts of refusals.
+//! Seats, as contracts see them. What they show of their calls takes no memory but for what they count.
 
 use crate::closing::WordSeat;
 use crate::counted::CountedPass;

@@ -17,7 +17,7 @@ abbrev pub number_in : List ℕ → ℕ → Option ℕ
 number_in line place =
     if nat_lt place (length line) then read_natural kind.UInt64 (take (word_long (drop place line)) (drop place line)) else None
 
--- what stands before the row in the line of a malformed source
+-- what stands before the row in the end line for a malformed line of a source
 abbrev pub malformed_front : ℕ → List ℕ
 malformed_front source = codes "= malformed source " ++ decimal source ++ codes " row "
 
@@ -33,7 +33,7 @@ kind_at n =
     else if nat_eq n 6 then malformed.RowTooLong
     else malformed.TooManyRows
 
--- the line says that this source is malformed
+-- the line says that this source has a malformed line
 pub record IsMalformedAt (source : ℕ) (line : List ℕ) : Type 0 where
   pub row : ℕ
   pub kind : MalformedKind

@@ -97,7 +97,7 @@ fn number_behind(line: &[u8], place: usize) -> Option<u64>
     }
 }
 
-// Writes what stands before the row in the line of a malformed source.
+// Writes what stands before the row in the end line for a malformed line of a source.
 fn write_front(source: u32, to: &mut Text) -> Result<(), Memory>
     ensures { OnOk result (to.new ≡ malformed_front source) }
 {
@@ -107,7 +107,7 @@ fn write_front(source: u32, to: &mut Text) -> Result<(), Memory>
     to.append(b" row ")
 }
 
-// A kind of malformed row, by its number from 0.
+// A kind of malformed line, by its number from 0.
 fn kind_at(number: u32) -> MalformedKind
     ensures { result ≡ kind_at number }
 {
@@ -123,7 +123,7 @@ fn kind_at(number: u32) -> MalformedKind
     }
 }
 
-// Whether a line says that a source is malformed in this row.
+// Whether a line says that a source has a malformed line at this row.
 fn is_malformed_row(source: u32, row: u64, line: &[u8], written: &mut Text) -> Result<bool, Memory>
     ensures { IfOk result (λ is. MatchBool is ((k : MalformedKind) × (line.now ≡ malformed_text source row k)) ((k : MalformedKind) → line.now ≢ malformed_text source row k)) }
 {
@@ -136,7 +136,7 @@ fn is_malformed_row(source: u32, row: u64, line: &[u8], written: &mut Text) -> R
     Ok(false)
 }
 
-// The row that a line tells where it says that this source is malformed.
+// The row that a line tells where it says that this source has a malformed line.
 fn malformed_row(source: u32, line: &[u8], written: &mut Text) -> Result<Option<u64>, Memory>
     ensures { IfOk result (λ row. row ≡ number_in line.now (length (malformed_front source))) }
 {
@@ -144,7 +144,7 @@ fn malformed_row(source: u32, line: &[u8], written: &mut Text) -> Result<Option<
     Ok(number_behind(line, written.as_bytes().len()))
 }
 
-// Whether a line says that this source is malformed.
+// Whether a line says that this source has a malformed line.
 fn is_malformed_source(source: u32, line: &[u8], written: &mut Text) -> Result<bool, Memory>
     ensures { IfOk result (λ is. MatchBool is (IsMalformedAt source line.now) (¬ (IsMalformedAt source line.now))) }
 {
@@ -160,7 +160,7 @@ fn is_malformed_source(source: u32, line: &[u8], written: &mut Text) -> Result<b
     }
 }
 
-/// Whether a line says that a source is malformed.
+/// Whether a line says that a source has a malformed line.
 pub fn is_malformed(line: &[u8], written: &mut Text) -> Result<bool, Memory>
     ensures { IfOk result (λ is. MatchBool is (IsMalformedLine line.now) (¬ (IsMalformedLine line.now))) }
 {

@@ -124,7 +124,7 @@ pub fn equal(a: LentField, b: LentField) -> bool
     }
 }
 
-// What an operator between two numbers gives; without a sign for numbers, and of values that are no numbers, nothing.
+// What an operator between two numbers gives; one that is not for numbers gives nothing.
 fn on_numbers<'a>(operator: Binary, kind: Kind, a: i128, b: i128) -> LentAnswer<'a>
     ensures { the_answer result ≡ of_numbers operator kind a b }
 {

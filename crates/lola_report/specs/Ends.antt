@@ -17,7 +17,7 @@ done_text accepted late steps lines =
 abbrev pub refused_text : Refusal → List ℕ
 refused_text r = codes "= refused E" ++ decimal (code_number r.code) ++ codes " " ++ code_name r.code ++ codes " at " ++ decimal r.at ++ codes "\n"
 
--- where a source is malformed, and how
+-- where a line of a source is malformed, and how
 abbrev pub malformed_text : ℕ → ℕ → MalformedKind → List ℕ
 malformed_text source row kind =
     codes "= malformed source " ++ decimal source ++ codes " row " ++ decimal row ++ codes " kind " ++ decimal (malformed_number kind) ++ codes " " ++ malformed_name kind ++ codes "\n"

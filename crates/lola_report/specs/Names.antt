@@ -1,4 +1,4 @@
--- The numbers and names of refusals, of malformed rows and of faults.
+-- The numbers and names of refusals, of malformed lines and of faults.
 use Rattle.std.specs.Prelude.{ℕ, List, codes}
 use Rattle.lola_value.specs.declared.front.Code.{Code}
 use Rattle.lola_value.specs.declared.front.Code.TheVariants as code
@@ -30,7 +30,7 @@ code_name code.WindowNeedsWholePeriod = codes "WindowNeedsWholePeriod"
 code_name code.ZeroCycle = codes "ZeroCycle"
 code_name code.LocalWithoutSpawn = codes "LocalWithoutSpawn"
 
--- the number of a kind of malformed row
+-- the number of a kind of malformed line
 abbrev pub malformed_number : MalformedKind → ℕ
 malformed_number malformed.BadHeading = 1
 malformed_number malformed.FieldCount = 2

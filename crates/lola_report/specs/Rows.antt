@@ -1,4 +1,4 @@
--- The rows of the trace: which are joined by commas, and what a writer has written of one.
+-- The lines of the trace: which are joined by commas, and what a writer has written of one.
 use Rattle.std.specs.Prelude.{ℕ, ◌≡◌, ◌==◌, ◌||◌, ◌&&◌, ◌-◌, ◌^◌, List, [], ◌∷◌, ◌++◌, Bool, not, length, min, decimal, flat_map, Vec}
 use Rattle.std.specs.List.{list_any}
 use Rattle.std.specs.declared.alloc.Global.{Global}
@@ -50,7 +50,7 @@ written w = (writer_under w).items ++ writer_pending w
 abbrev pub counted : ℕ → ℕ
 counted n = min n (2 ^ 64 - 1)
 
--- with its defaults it has written these fields of a row, and nothing else
+-- with its defaults it has written these fields of a line, and nothing else
 pub record HasFields (w : RowWriter) (fields : List (List ℕ)) : Type 0 where
   pub setup : writer_setup w ≡ default_writer
   pub text : written w ≡ row_body default_writer fields

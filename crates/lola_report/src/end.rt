@@ -34,7 +34,7 @@ pub enum EndLine {
         row: u64,
         kind: MalformedKind,
     },
-    /// An expression of this stream had no value, at a time in nanoseconds.
+    /// An evaluation of this stream came to a fault, at a time in nanoseconds.
     Fault {
         name: Text,
         kind: FaultKind,

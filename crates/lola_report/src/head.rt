@@ -1,4 +1,4 @@
-//! What stands before the mark in a line of the trace, made in one room and appended at once.
+//! What stands before the mark in a line of the trace, made in one buffer and appended at once.
 
 ghost use Rattle.std.specs.Prelude.{◌≡◌, ◌+◌, ◌≤◌, [], ◌∷◌, ◌++◌, OnOk, OnErr, decimal, drop, replicate};
 ghost use Rattle.lola_value.specs.Times.{time_text};
@@ -9,7 +9,7 @@ use lola_model::journal::Row;
 use lola_value::text::{Memory, Text};
 use lola_value::times::SECOND;
 
-// Writes a time and a comma at the end of a room of zeros, and answers where they begin.
+// Writes a time and a comma at the end of a buffer of zeros, and answers where they begin.
 fn write_time(t: u64, room: &mut [u8; 64]) -> usize
     requires { room.old ≡ replicate 64 48 }
     ensures text { drop result room.new ≡ time_text t ++ 44 ∷ [] }

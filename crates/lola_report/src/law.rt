@@ -36,7 +36,7 @@ pub fn not_both(_plan: &Plan)
     ensures { (bytes : List ℕ) (journal : List Entry) (n : ℕ) → Spells _plan.now bytes journal → ¬ (IsFirstBad _plan.now bytes n) }
 {}
 
-/// The records of a trace text, as the crate `csv` reads them with its default settings and no header row, are the
+/// The records of a trace text, as the crate `csv` reads them with its default settings and no heading, are the
 /// fields of the entries, line by line, and no others.
 pub fn trace_is_csv(_plan: &Plan)
     ensures read { (told : List Entry) → AllByRecursion (IsTraceable _plan.now) told

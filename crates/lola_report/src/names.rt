@@ -1,4 +1,4 @@
-//! The numbers and names of refusals, of malformed rows and of faults, as end lines show them.
+//! The numbers and names of refusals, of malformed lines and of faults, as end lines show them.
 
 ghost use Rattle.std.specs.Prelude.{◌≡◌};
 ghost use Rattle.lola_report.specs.Names.{code_number, code_name, malformed_number, malformed_name, fault_number, fault_name};
@@ -41,7 +41,7 @@ pub fn code_name(code: Code) -> &'static str
     }
 }
 
-/// The number of a kind of malformed row, from 1.
+/// The number of a kind of malformed line, from 1.
 pub fn malformed_number(kind: MalformedKind) -> u64
     ensures { result ≡ malformed_number kind }
 {

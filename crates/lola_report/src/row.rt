@@ -1,4 +1,4 @@
-//! Rows of the trace as the crate csv writes them.
+//! Lines of the trace as the crate csv writes them.
 
 ghost use Rattle.std.specs.Prelude.{◌≡◌, [], ◌∷◌, ◌++◌, ℕ, List, IfOk, OnOk, OnErr, map};
 ghost use Rattle.csv.specs.Writing.{fields_written, has_written, tail_text, writer_setup};
@@ -13,7 +13,7 @@ use lola_model::journal::Entry;
 use lola_value::text::{Field, Memory, Text};
 use std::alloc::Global;
 
-// Writes one more field of a row. A writer into memory fails for want of it alone.
+// Writes one more field of a line. A writer into memory fails for want of it alone.
 fn write_bytes(bytes: &[u8], row: &mut Writer<Vec<u8>>) -> Result<(), Memory>
     ensures { OnOk result ((fields : List (List ℕ)) → HasFields row.old fields → HasFields row.new (fields ++ bytes.now ∷ [])) }
 {
@@ -23,7 +23,7 @@ fn write_bytes(bytes: &[u8], row: &mut Writer<Vec<u8>>) -> Result<(), Memory>
     }
 }
 
-// Writes a piece as one more field of a row. What is in the scratch text does not count.
+// Writes a piece as one more field of a line. What is in `scratch` does not count.
 fn write_piece(
     piece: LinePiece,
     scratch: &mut Text,
@@ -60,7 +60,7 @@ fn write_fields(
     Ok(())
 }
 
-// Ends a row.
+// Ends a line.
 fn end_row(row: &mut Writer<Vec<u8>>) -> Result<(), Memory>
     ensures { OnOk result (written row.new ≡ written row.old ++ tail_text (writer_setup row.old) (has_written row.old) (fields_written row.old)) }
 {
@@ -70,7 +70,7 @@ fn end_row(row: &mut Writer<Vec<u8>>) -> Result<(), Memory>
     }
 }
 
-// Writes the row of an entry.
+// Writes the line of an entry.
 fn write_row(entry: &Entry, scratch: &mut Text, row: &mut Writer<Vec<u8>>) -> Result<(), Memory>
     requires { HasFields row.old [] }
     ensures { OnOk result (written row.new ≡ trace_line entry.now) }
@@ -80,7 +80,7 @@ fn write_row(entry: &Entry, scratch: &mut Text, row: &mut Writer<Vec<u8>>) -> Re
     end_row(row)
 }
 
-// The row of an entry.
+// The line of an entry.
 fn row_bytes(alloc: Global, entry: &Entry) -> Result<Vec<u8>, Memory>
     ensures { IfOk result (λ row. row.items ≡ trace_line entry.now) }
 {

@@ -73,13 +73,13 @@ fn joined_line(entry: &Entry, to: &mut Text) -> Result<(), Memory>
     marked_line(entry, to)
 }
 
-/// Appends the line of an entry, the row of CSV with the fields `SOURCE`, `NUMBER`, `TIME`, `MARK` and one for each
+/// Appends the line of an entry, a record of CSV with the fields `SOURCE`, `NUMBER`, `TIME`, `MARK` and one for each
 /// input, its LF included.
 ///
 /// Sources count from 0 and rows from 1, and the time is the row's stamp in seconds with nine decimals. The mark is
-/// `A` for an accepted row, and for a late one `L` and the time that the merge had reached. A field that is absent is
-/// `#`, and a text stands as it is. Where a text has a comma, a double quote or a line end, the crate csv writes the row,
-/// in memory of its own, and puts quotes where they are called for; every other row is joined by commas, which is the
+/// `A` for an accepted row, and for a late one `L` and the merged time. A field that is absent is
+/// `#`, and a text stands as it is. Where a text has a comma, a double quote or a line end, the crate csv writes the line,
+/// in memory of its own, and puts quotes where they are called for; every other line is joined by commas, which is the
 /// same. After `Memory` a front of the line may stand behind what was there.
 pub fn trace_line(alloc: Global, entry: &Entry, to: &mut Text) -> Result<(), Memory>
     ensures ok { OnOk result (to.new ≡ to.old ++ trace_line entry.now) }

@@ -35,7 +35,7 @@ pub record Failed (held0 held1 : List ℕ) (old new : SourceState) : Type 0 wher
   pub rose : Rose old.count new.count
   pub place : new.place ≡ old.place
 
--- a line is held whole, or none will come. A mark before the first line may be held with it
+-- a line is held whole, or none will come. A byte order mark before the first line may be held with it
 abbrev pub Fills : Filled → List ℕ → List ℕ → SourceState → SourceState → Type 0
 Fills (filled.Line n) held0 held1 old new = (position is_line_end held1 ≡ Some n) × Brought held0 held1 old new
 Fills filled.Last held0 held1 old new = (position is_line_end held1 ≡ None) × IsAtEnd new.left × Brought held0 held1 old new

@@ -10,7 +10,7 @@ abbrev pub fields_read : Option Read → List (List ℕ)
 fields_read None = []
 fields_read (Some r) = r.0
 
--- the fields that csv gives for a line alone: with the reader's defaults, and no header row
+-- the fields that csv gives for a line alone: with the reader's defaults, and no heading
 abbrev pub fields_of_line : List ℕ → List (List ℕ)
 fields_of_line line = fields_read (next_record default_config st.StartRecord [] [] line)
 

@@ -32,11 +32,11 @@ abbrev pub unless : {X : Type 0} → Option MalformedKind → Result X Malformed
 unless None value = value
 unless (Some kind) value = Err kind
 
--- a fault, where a test finds it
+-- a flaw, where a test finds it
 abbrev pub flaw_if : Bool → MalformedKind → Option MalformedKind
 flaw_if b kind = if b then Some kind else None
 
--- the first of two faults
+-- the first of two flaws
 abbrev pub or_flaw : Option MalformedKind → Option MalformedKind → Option MalformedKind
 or_flaw None second = second
 or_flaw (Some kind) second = Some kind

@@ -1,4 +1,4 @@
--- What the steps of one call of a reader do.
+-- What the parts of one call of a reader do.
 use Rattle.std.specs.Prelude.{ℕ, ◌≡◌, ◌≤◌, ◌⊎◌, List, [], ◌∷◌, ◌++◌, length, Bool, true, false, Option, Some, None, Result, Ok, Err}
 use Rattle.lola_value.specs.declared.text.Field.{Field}
 use Rattle.lola_model.specs.declared.journal.Row.{Row}
@@ -43,7 +43,7 @@ Seeks found.TooLong old new = Goes old new × ((bytes : List ℕ) → new.source
 Seeks found.Nothing old new = Goes old new × ((bytes : List ℕ) → new.source.left ≡ Some bytes → lines_of (new.held ++ bytes) ≡ [])
 Seeks found.ReadFailed old new = BrokeOff old new
 
--- the mark was dropped, or the heading was taken, or why not
+-- the byte order mark was dropped, or the heading was taken, or why not
 abbrev pub Begins : Result (Unit {0}) Ending → Reading → Reading → Type 0
 Begins (Ok done) old new = Goes old new
 Begins (Err how) old new = Stops how old new

@@ -2,7 +2,7 @@
 use Rattle.std.specs.Prelude.{ℕ, ◌-◌, List, slice_range}
 use Rattle.lola_rows.specs.declared.window.Window.{Window}
 
--- how many bytes a window has room for in all
+-- how many bytes a buffer has room for in all
 abbrev pub whole_room : ℕ
 whole_room = 131072
 

@@ -16,7 +16,7 @@ pub(crate) const MOST_HELD: usize = 65539;
 /// The shortest buffer that a source is given.
 const LEAST_READ: usize = 4096;
 
-/// What stands at the front of a window.
+/// What stands at the front of a buffer.
 #[derive(Clone, Copy, Debug)]
 pub(crate) enum Filled {
     /// A line of so many bytes, and its end.

@@ -82,7 +82,7 @@ impl EmptyReader {
 /// `timestamp`, the time of each row in seconds; a field with the name of an input gives its values; others are
 /// ignored, and an input without one is absent. An empty field and `#` are absent values.
 ///
-/// The first line of another form, and a row more than are allowed, end the source as malformed.
+/// The first line of another form is malformed and ends the source, and so does the line of a row more than are allowed.
 ///
 /// It holds at most 131,072 bytes, and gives each read room for at least 4,096.
 #[derive(Drop)]
@@ -201,7 +201,7 @@ impl<S: Source> RowReader<S> {
         }
     }
 
-    // The next row, with the mark and the heading before the first.
+    // The next row, with the byte order mark and the heading before the first.
     fn advance(&mut self) -> Result<Row, Ending>
         ensures takes { Takes result self.old self.new }
         ensures last { self.old.stage ≡ Section.Over → (result ≡ Err Ending.End) × (self.new ≡ self.old) }
@@ -216,7 +216,7 @@ impl<S: Source> RowReader<S> {
         self.take_row()
     }
 
-    // Takes the mark and the heading, unless they were taken.
+    // Takes the byte order mark and the heading, unless they were taken.
     fn take_start(&mut self) -> Result<(), Ending>
         ensures begins { Begins result self.old self.new }
         ensures kept { Keeps self.old self.new }
@@ -251,7 +251,7 @@ impl<S: Source> RowReader<S> {
         }
     }
 
-    // Reads so much that a mark is held whole, if there is one.
+    // Reads so much that a byte order mark is held whole, if there is one.
     fn fill(&mut self) -> Filled
         requires { self.old.stage ≡ Section.Start }
         ensures fills { Fills result self.old self.new }
@@ -367,8 +367,8 @@ impl<S: Source> RowReader<S> {
         self.source.wait_for_bytes(milliseconds)
     }
 
-    /// Asks that the bytes of its source be read before they are asked for, by a thread of its own, which rings this bell whenever
-    /// what a read would have waited for has come.
+    /// Has the bytes of its source read before they are needed, by a thread of its own, which rings this bell whenever what a
+    /// read would have waited for has come.
     pub fn read_ahead(&mut self, bell: &Bell)
         ensures { self.new ≡ self.old }
     {
@@ -380,7 +380,7 @@ impl<S: Source> RowReader<S> {
         self.source.rings()
     }
 
-    /// Whether the next row, or how the reader ends, is told without a read: a line is held whole, or none is read any
+    /// Whether the next row, or how the reader ends, is known without a read: a line is held whole, or none is read any
     /// more.
     pub fn has_line(&self) -> bool {
         self.ended.is_some()

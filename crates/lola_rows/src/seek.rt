@@ -9,7 +9,7 @@ use crate::stage::Section;
 use crate::window::Window;
 use lola_port::Source;
 
-/// A line at the front of a window: how many bytes stand before its line feed, how many of them are its text, and how
+/// A line at the front of a buffer: how many bytes stand before its line feed, how many of them are its text, and how
 /// many are to be taken with it.
 #[derive(Clone, Copy, Debug)]
 pub(crate) struct Extent {

@@ -32,7 +32,7 @@ pub(crate) struct Window {
 impl Window {
     ghost use Rattle.lola_rows.specs.Window.{items, room, whole_room};
 
-    /// An empty window.
+    /// An empty buffer.
     pub(crate) fn reserve(alloc: Global) -> Result<Window, Memory>
         ensures { IfOk result (λ window. items window ≡ []) }
     {
@@ -102,7 +102,7 @@ impl Window {
         }
     }
 
-    /// Whether a line that is not empty is held whole, or more than any line has: nothing has to be read to tell what is
+    /// Whether a line that is not empty is held whole, or more than any line has: nothing has to be read to know what is
     /// next.
     pub(crate) fn has_line(&self) -> bool {
         holds_line(self.as_slice())

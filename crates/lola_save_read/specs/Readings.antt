@@ -1,4 +1,4 @@
--- What is read of the lines of a state, and where they are refused.
+-- What is read of the lines of a state, and where they cannot be read.
 use Rattle.std.specs.Prelude.{ℕ, ◌≡◌, ◌+◌, ◌-◌, List, [], ◌∷◌, Option, ◌++◌, flat_map, length}
 use Rattle.lola_value.specs.declared.text.Field.{Field}
 use Rattle.lola_save_text.specs.Fitting.{time_or}

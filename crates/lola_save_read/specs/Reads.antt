@@ -25,7 +25,7 @@ pub record IsStepsLine (bytes : List ℕ) (n : ℕ) (rest : List ℕ) : Type 0 w
   pub few : n ≤ most_steps
   pub written : bytes ≡ codes "steps " ++ (decimal n ++ 10 ∷ rest)
 
--- the first three lines of bytes are accepted, and say this; what stands behind them
+-- the first three lines of bytes are those of a state, and say this; what stands behind them
 pub record AreTimesRead (bytes : List ℕ) (t : Times) (rest : List ℕ) : Type 0 where
   pub order : is_last t.start t.last ≡ true
   pub few : t.steps ≤ most_steps

@@ -1,4 +1,4 @@
--- How a reader goes on from a place: what it reads of bytes, and where it refuses them.
+-- How a reader goes on from a place: what it reads of bytes, and where it cannot read them.
 use Rattle.std.specs.Prelude.{ℕ, ◌≡◌, List, [], ◌∷◌, ◌++◌, Some, None, length}
 use Rattle.lola_value.specs.declared.text.Field.{Field}
 use Rattle.lola_save_text.specs.Fitting.{time_or}
@@ -29,22 +29,22 @@ abbrev pub low_after : ℕ → List SavedInstance → ℕ
 low_after low [] = low
 low_after low (i ∷ is) = low_after (time_or low i.born) is
 
--- bytes begin with a line that is accepted at a place, and what stands behind it
+-- bytes begin with a line that may stand at a place, and what stands behind it
 pub record IsLineRead (forms : List StreamForm) (p : Place) (bytes : List ℕ) (l : StateLine) (q : Place) (rest : List ℕ) : Type 0 where
   pub written : bytes ≡ line_text l ++ rest
   pub accepted : next forms p l ≡ Some q
 
--- bytes begin with no line that is accepted at a place
+-- bytes begin with no line that may stand at a place
 abbrev pub IsNoLine : List StreamForm → Place → List ℕ → Type 0
 IsNoLine forms p bytes = (l : StateLine) (rest : List ℕ) → bytes ≡ line_text l ++ rest → next forms p l ≡ None
 
--- bytes begin with lines that are accepted from a place on, up to another, and what stands behind them
+-- bytes begin with lines that may stand from a place on, up to another, and what stands behind them
 pub record AreLinesRead (forms : List StreamForm) (p : Place) (bytes : List ℕ) (ls : List StateLine) (q : Place) (rest : List ℕ) : Type 0 where
   pub written : bytes ≡ lines_text ls ++ rest
   pub accepted : run forms p ls ≡ Some q
 
--- from a place on, bytes are refused where so many are left: lines before that are accepted, and no line that is accepted there
--- begins the others, nor is there the end
+-- from a place on, bytes cannot be read where so many are left: lines before that may stand there, and no line that may stand at
+-- the next place begins the others, nor is there the end
 pub record IsRefusedAt (forms : List StreamForm) (p : Place) (bytes : List ℕ) (many : ℕ) : Type 0 where
   pub before : List StateLine
   pub place : Place

@@ -1,4 +1,4 @@
-//! The instances of a stream. What is refused is told by how many bytes are left where it begins.
+//! The instances of a stream. What cannot be read is named by how many bytes are left where it begins.
 
 ghost use Rattle.std.specs.Prelude.{◌≡◌, [], ◌∷◌, List, IfOk, MatchResult, false};
 ghost use Rattle.lola_save_text.specs.Forms.{HaveLength};

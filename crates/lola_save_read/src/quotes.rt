@@ -70,7 +70,7 @@ fn first_byte(bytes: &[u8]) -> Option<(u8, &[u8])>
     }
 }
 
-// Puts the text up to the closing quote into a room, and answers what stands behind that.
+// Puts the text up to the closing quote into `room`, and answers what stands behind that.
 fn unquote_rest<'a>(bytes: &'a [u8], room: &mut Text) -> Result<Option<&'a [u8]>, Memory>
     ensures { IfOk result (λ read. MatchOption read ((text rest : List ℕ) → bytes.now ≢ flat_map escaped text ++ 34 ∷ rest) (λ rest. bytes.now ≡ flat_map escaped room.new ++ 34 ∷ rest.now)) }
 {
@@ -90,7 +90,7 @@ fn unquote_rest<'a>(bytes: &'a [u8], room: &mut Text) -> Result<Option<&'a [u8]>
     }
 }
 
-/// Puts the text between the double quotes with which bytes begin into a room, and answers what stands behind them.
+/// Puts the text between the double quotes with which bytes begin into `room`, and answers what stands behind them.
 pub(crate) fn unquote<'a>(bytes: &'a [u8], room: &mut Text) -> Result<Option<&'a [u8]>, Memory>
     ensures { IfOk result (λ read. MatchOption read ((text rest : List ℕ) → bytes.now ≢ quoted text ++ rest) (λ rest. bytes.now ≡ quoted room.new ++ rest.now)) }
 {

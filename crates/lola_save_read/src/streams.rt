@@ -68,7 +68,7 @@ fn read_to_end(
     }
 }
 
-/// The streams of a state of a plan, behind the first three lines and up to the end; or how many bytes are left where they are refused.
+/// The streams of a state of a plan, behind the first three lines and up to the end; or how many bytes are left where they cannot be read.
 pub(crate) fn streams_of(
     alloc: Global,
     plan: &Plan,

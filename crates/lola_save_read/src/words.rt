@@ -43,7 +43,7 @@ pub(crate) fn number_word(digits: &[u8]) -> Option<u64>
     }
 }
 
-// Prints a time at the end of a room of zeros, and answers where it begins.
+// Prints a time at the end of a buffer of zeros, and answers where it begins.
 fn print_time(t: u64, room: &mut [u8; 21]) -> usize
     requires { room.old ≡ replicate 21 48 }
     ensures text { drop result room.new ≡ time_text t }

@@ -1,4 +1,4 @@
--- A reader over many lines, and the first line that it refuses.
+-- A reader over many lines, and the first line that does not fit.
 use Rattle.std.specs.Prelude.{ℕ, ◌≡◌, ◌+◌, List, [], ◌∷◌, ◌++◌, Option, Some, None, filter, length, nat_eq}
 use Rattle.lola_model.specs.declared.plan.Plan.{Plan}
 use Rattle.lola_save_text.specs.Forms.{StreamForm, forms_of}
@@ -28,8 +28,8 @@ BeginSaved forms ls = (s : SavedState) × IsSaved forms s × (more : List StateL
 abbrev pub count_lines : List ℕ → ℕ
 count_lines bytes = length (filter (λ b. nat_eq b 10) bytes)
 
--- what stands before the lines of the state is right, the lines of the state before the n-th of all are accepted, and what
--- stands behind them is not: no line that may come there begins it, and the end does not come there either
+-- what stands before the lines of the state is right, the lines of the state before the n-th of all fit, and what stands
+-- behind them does not: no line that may come there begins it, and the end does not come there either
 pub record IsFirstRefused (spec : List ℕ) (plan : Plan) (bytes : List ℕ) (n : ℕ) : Type 0 where
   pub before : List StateLine
   pub place : Place

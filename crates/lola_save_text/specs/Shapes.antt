@@ -1,4 +1,4 @@
--- As many items as a plan has: what of a state its lines do not tell.
+-- As many of each as a plan has: what of a state its lines do not tell.
 use Rattle.std.specs.Prelude.{List, [], ◌∷◌, Option}
 use Rattle.lola_save_text.specs.Forms.{StreamForm, WindowForm}
 use Rattle.lola_save_text.specs.States.{SavedInstance, SavedPanes}

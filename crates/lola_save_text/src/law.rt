@@ -1,4 +1,4 @@
-//! Laws of state texts: they tell one state, lines that are accepted one by one begin one, and the first line that is refused is
+//! Laws of state texts: they tell one state, lines that fit one by one begin one, and the first line that does not fit is
 //! the one at which bytes are damaged.
 
 ghost use Rattle.std.specs.Prelude.{◌≡◌, ◌≤◌, ◌+◌, ◌++◌, ℕ, List, [], IsSome, true, length};
@@ -23,23 +23,23 @@ pub fn one_state(_plan: &Plan)
         → state_text spec _plan.now s ≡ state_text spec _plan.now t → s ≡ t }
 {}
 
-/// Lines that are accepted to the end are the lines of a state that the plan can have, and the lines of each such state are
-/// accepted to the end.
+/// Lines that fit to the end are the lines of a state that the plan can have, and the lines of each such state fit to the
+/// end.
 pub fn whole_is_saved(_plan: &Plan)
     ensures sound { (ls : List StateLine) → AreWhole (forms_of _plan.now) ls
         → (s : SavedState) × IsSaved (forms_of _plan.now) s × (ls ≡ state_lines (forms_of _plan.now) s) }
     ensures complete { (s : SavedState) → IsSaved (forms_of _plan.now) s → AreWhole (forms_of _plan.now) (state_lines (forms_of _plan.now) s) }
 {}
 
-/// Lines are accepted one by one exactly where the lines of a state that the plan can have begin with them: each beginning that
-/// is accepted has a way to the end.
+/// Lines fit one by one exactly where the lines of a state that the plan can have begin with them: each beginning that fits
+/// has a way to the end.
 pub fn fitting_begins(_plan: &Plan)
     requires { IsAccepted _plan.now }
     ensures sound { (ls : List StateLine) → IsSome (run (forms_of _plan.now) AtStart ls) → BeginSaved (forms_of _plan.now) ls }
     ensures complete { (ls : List StateLine) → BeginSaved (forms_of _plan.now) ls → IsSome (run (forms_of _plan.now) AtStart ls) }
 {}
 
-/// The first line that is refused is the line at which the bytes are damaged, counted over all of them.
+/// The first line that does not fit is the line at which the bytes are damaged, counted over all of them.
 pub fn first_unfitting_is_damaged(_plan: &Plan)
     requires { IsAccepted _plan.now }
     ensures { (spec bytes : List ℕ) (n : ℕ) → IsFirstRefused spec _plan.now bytes n → IsDamagedAt spec _plan.now bytes n }

@@ -6,8 +6,8 @@
 //! order of birth, each with its parameters, its last values, and the panes of each window, folded anew from the values of its life; and
 //! which values an instance had that was saved.
 //!
-//! Promised: a text tells one state. A reader that takes a text line by line is a machine of places; it accepts exactly the beginnings of
-//! state texts, and the first line that it refuses is the one at which bytes are damaged.
+//! Promised: a text tells one state. A reader that takes a text line by line is a machine of places; the lines that fit are exactly the
+//! beginnings of state texts, and the first line that does not fit is the one at which bytes are damaged.
 //! Over each journal an accepted plan has exactly one state; of a journal that a run can take, of at most 2^62 settled steps, the
 //! state is one that the plan can have, where the plan's text literals are in UTF-8, so its text is a state text of the plan. The start
 //! that it tells serves as the start option of whatever comes behind the journal. Over the same values the panes of a store, by offsets

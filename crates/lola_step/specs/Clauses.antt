@@ -52,7 +52,7 @@ abbrev pub IsWellNamed : List Kind → Spawning → Type 0
 IsWellNamed kinds (spawning.Named p) = IsTrue (are_of_kinds kinds (the_values p)) × IsTrue (is_well_formed p)
 IsWellNamed kinds _ = Unit {0}
 
--- expressions of no instance that a store can be asked, each of its own kind
+-- expressions of no instance that can be evaluated over a store, each of its own kind
 abbrev pub AreExpressions : Seen → List (List ℕ) → List Expr → Type 0
 AreExpressions s texts [] = Unit {0}
 AreExpressions s texts (e ∷ es) = IsAskable s no_params texts (noted e) e × AreExpressions s texts es
@@ -68,6 +68,6 @@ abbrev pub eval_answer : Spec → Bool → Option Stream → Content → List Fi
 eval_answer spec active None c p = Missing
 eval_answer spec active (Some s) c p = eval_outcome spec c false active s.eval p
 
--- of a close condition, which is asked where its clause is active
+-- of a close condition, which is evaluated where its clause is active
 abbrev pub closing_answer : Spec → Bool → Option Clause → Content → List Field → Answer
 closing_answer spec active k c p = if active then close_answer spec c k p else Missing

@@ -31,7 +31,7 @@ pub record IsShown (plan : Plan) (names : Naming) (c : Content) (remembers : Mem
   pub texts : HasTexts names plan.spec.texts
   pub stands : Stands names remembers s c
 
--- where a close clause of stream n with this pacing is active for an instance, whenever that was born, it may be asked for it
+-- where a close clause of stream n with this pacing is active for an instance, whenever that was born, it may be evaluated for it
 abbrev pub MayAskClosing : Plan → Moment → Option Pacing → Seen → ℕ → Clause → Type 0
 MayAskClosing plan m o s n k =
     (born : ℕ) → active_for_in m born o ≡ true → (p : Params) → IsTrue (are_of_kinds (parameters_of (slice_get s.layout.streams n)) (the_values p))

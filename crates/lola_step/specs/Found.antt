@@ -22,17 +22,17 @@ use Rattle.lola_step.specs.declared.step_value.StepValue.{StepValue}
 
 -- faults
 
--- the lesser of two kinds, either of which may be none
+-- the lesser of two kinds of faults, either of which may be none
 abbrev pub least_of : Option FaultKind → Option FaultKind → Option FaultKind
 least_of None rest = rest
 least_of (Some k) rest = lesser_kind k rest
 
--- adds the kind of an outcome that is a fault
+-- adds the kind of the fault that an outcome is
 abbrev pub add_fault : Outcome → Option FaultKind → Option FaultKind
 add_fault (outcome.Fault k) rest = lesser_kind k rest
 add_fault _ rest = rest
 
--- the least kind among outcomes
+-- the least kind of a fault among outcomes
 abbrev pub least_among : List Outcome → Option FaultKind
 least_among [] = None
 least_among (o ∷ os) = add_fault o (least_among os)
@@ -52,12 +52,12 @@ abbrev pub first_among : List Outcome → ℕ → List SpawnResult → List Span
 first_among results n (m ∷ ms) (p ∷ ps) = fault_or n (fault_of m (in_span results (Some p))) (first_among results (n + 1) ms ps)
 first_among results n _ _ = None
 
--- whether a spawn clause failed
+-- whether a spawn clause has a fault of its own
 abbrev pub is_faulted : SpawnResult → Bool
 is_faulted (spawn_result.Fault k) = true
 is_faulted _ = false
 
--- none did
+-- none has
 abbrev pub NoneFaulted : List SpawnResult → Type 0
 NoneFaulted spawn_results = (n : ℕ) (k : SpawnResult) → slice_get spawn_results n ≡ Some k → is_faulted k ≡ false
 
@@ -71,7 +71,7 @@ abbrev pub has_fault : List Outcome → Bool
 has_fault [] = false
 has_fault (o ∷ os) = is_fault o || has_fault os
 
--- no spawn clause failed, and no outcome is a fault
+-- no spawn clause has a fault of its own, and no outcome is a fault
 abbrev pub IsFaultless : List SpawnResult → List Outcome → Type 0
 IsFaultless spawn_results results = NoneFaulted spawn_results × (has_fault results ≡ false)
 
@@ -96,7 +96,7 @@ abbrev pub step_values_with : ℕ → Params → List Outcome → List StepValue
 step_values_with n p [] = []
 step_values_with n p (o ∷ os) = add_step_value n p o (step_values_with n p os)
 
--- each with those of the instance that was asked
+-- each with those of the instance that was evaluated
 abbrev pub step_values_among : Seen → ℕ → List Task → List Outcome → List StepValue
 step_values_among s n (t ∷ ts) (o ∷ os) = add_step_value n (params_given s n t.index) o (step_values_among s n ts os)
 step_values_among s n _ _ = []

@@ -1,4 +1,4 @@
--- How the inputs of a step are told.
+-- How the inputs of a step are given their outcomes.
 use Rattle.std.specs.Prelude.{ℕ, List, length, slice_get, Option, Some, None, Bool}
 use Rattle.lola_value.specs.declared.value.Outcome.{Outcome}
 use Rattle.lola_value.specs.declared.value.Outcome.TheVariants as outcome

@@ -55,7 +55,7 @@ abbrev pub in_span : List Outcome → Option Span → List Outcome
 in_span results None = []
 in_span results (Some p) = take p.count (drop p.from results)
 
--- the instances that were asked for them
+-- the instances that were evaluated for them
 abbrev pub asked_in : List Task → Option Span → List Task
 asked_in tasks None = []
 asked_in tasks (Some p) = take p.count (drop p.from tasks)
@@ -94,7 +94,7 @@ abbrev pub OneOf : Bool → Type 0 → Type 0 → Type 0
 OneOf true here there = here
 OneOf false here there = there
 
--- of these instances, from a place on, those that were asked have outcomes that read as these, each as its own, and the others have none
+-- of these instances, from a place on, those that were evaluated have outcomes that read as these, each as its own, and the others have none
 abbrev pub ReadEach : Naming → ℕ → List Task → List Outcome → List Living → Type 0
 ReadEach names i [] [] ls = AreSilent ls
 ReadEach names i (t ∷ ts) (o ∷ os) (l ∷ ls) =
@@ -132,7 +132,7 @@ is_fine (Some spawn_result.Fine) = true
 is_fine _ = false
 
 -- a stream runs in a layer: it is no input, its node is of the layer, its clause may be active for some instance, and its spawn
--- clause did not fail
+-- clause neither has a fault nor is poisoned
 abbrev pub runs_in : Plan → Moment → List SpawnResult → ℕ → ℕ → Stream → Bool
 runs_in plan m spawn_results layer n s =
     not (is_input s) && (nat_eq (layer_of plan.layers (eval_node n)) layer && (may_be_active_in m (eval_pacing (slice_get plan.pacings n)) && is_fine (slice_get spawn_results n)))
@@ -148,11 +148,11 @@ abbrev pub places_paced : Option Pacing → Moment → Seen → ℕ → List ℕ
 places_paced (Some (Local r)) m s n = due_places s n m.time
 places_paced _ m s n = places_from 0 (length (instances_seen s n))
 
--- where the instances of stream n stand that are to be asked, if that was noted
+-- where the instances of stream n stand that are to be evaluated, if that was noted
 abbrev pub sought_at : List Whereabouts → ℕ → Whereabouts
 sought_at sought n = unwrap_or (slice_get sought n) Unknown
 
--- the places of those that are asked: of the one that stands at these whereabouts, if it lives, and where nothing is known of all that
+-- the places of those that are to be evaluated: of the one that stands at these whereabouts, if it lives, and where nothing is known of all that
 -- the clause may be active for
 abbrev pub places_asked : Whereabouts → Option Pacing → Moment → Seen → ℕ → List ℕ
 places_asked Unknown p m s n = places_paced p m s n

@@ -1,4 +1,4 @@
--- That a clause may be asked is said in at most one way.
+-- That a clause may be evaluated is said in at most one way.
 use Rattle.std.specs.Prelude.{ℕ, ◌≡◌, List, [], ◌∷◌, Option, Some, None, Bool, IsTrue, drop}
 use Rattle.std.specs.Coded.{Coded, Coded-set, coded_ℕ}
 use Rattle.std.proofs.Props.{props}

@@ -40,7 +40,7 @@ pub record GoesOn (old new : Seen) : Type 0 where
   pub rooms : rooms new ≡ rooms old
   pub stay : (n : ℕ) → length (instances_seen old n) ≤ length (instances_seen new n)
 
--- a naming with the plan's texts, and rows that may stand before a step
+-- a naming with the plan's texts, and rows of the table that may stand before a step
 pub record IsRun (plan : Plan) (names : Naming) (rows : List TableRow) : Type 0 where
   pub naming : IsNaming names
   pub texts : HasTexts names plan.spec.texts

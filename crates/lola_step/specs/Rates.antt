@@ -1,4 +1,4 @@
--- What is known of the rate that was asked about last.
+-- What is known of the rate that was looked at last.
 use Rattle.std.specs.Prelude.{◌≡◌, ◌-◌, Some}
 use Rattle.lola_value.specs.Ratio.{Ratio}
 use Rattle.lola_model.specs.Activity.{is_deadline}

@@ -70,7 +70,7 @@ pub record IsFresh (n : Scratch) (room : ℕ) : Type 0 where
   pub closing_room : room ≤ vec_capacity n.closing
   pub step_values_room : room ≤ vec_capacity n.step_values
 
--- in each run: where the store stood once the inputs were told, all is noted now and it stands for the whole row
+-- in each run: where the store stood once the inputs had their outcomes, all is noted now and it stands for all of the model's row
 abbrev pub EvaluatesAll : Plan → Moment → Memories → Seen → Memories → Seen → Scratch → Type 0
 EvaluatesAll plan m remembers s remembers' s' n =
     (names : Naming) (rows : List TableRow) (step : Step) → IsRunAt plan m (layer_stage (length plan.spec.streams) 0) remembers s names rows step

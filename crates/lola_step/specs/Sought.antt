@@ -1,4 +1,4 @@
--- Which instances a clause is to be asked for.
+-- Which instances a clause is to be evaluated for.
 use Rattle.std.specs.Prelude.{ℕ, ◌≡◌, List, Some, true, false, IsTrue, slice_get}
 use Rattle.lola_value.specs.declared.value.Params.{Params}
 use Rattle.lola_value.specs.Answer.{Missing}
@@ -23,7 +23,7 @@ use Rattle.lola_step.specs.Schedules.{has_parameters}
 use Rattle.lola_step.specs.declared.spawn_result.SpawnResult.{SpawnResult}
 use Rattle.lola_step.specs.declared.moment.Moment.{Moment}
 
--- the condition of a clause of stream n may be asked for each instance
+-- the condition of a clause of stream n may be evaluated for each instance
 abbrev pub MayAskWhen : Plan → Seen → ℕ → Clause → Type 0
 MayAskWhen plan s n k =
     (p : Params) → IsTrue (are_of_kinds (parameters_of (slice_get s.layout.streams n)) (the_values p)) → IsWhenAskable s p plan.spec.texts k.when
@@ -45,6 +45,6 @@ abbrev pub AreSought : Plan → Moment → List SpawnResult → List Whereabouts
 AreSought plan m spawn_results sought remembers s layer =
     (n : ℕ) (x : Stream) → slice_get plan.spec.streams n ≡ Some x → runs_in plan m spawn_results layer n x ≡ true → IsSilentElsewhere plan m remembers s n (sought_at sought n)
 
--- nothing is noted of streams without parameters, whose one instance is always asked
+-- nothing is noted of streams without parameters, whose one instance is always evaluated
 abbrev pub AreUnsought : Plan → List Whereabouts → Type 0
 AreUnsought plan sought = (n : ℕ) (x : Stream) → slice_get plan.spec.streams n ≡ Some x → has_parameters x ≡ false → sought_at sought n ≡ Unknown

@@ -31,7 +31,7 @@ params_seen s n i = params_at (slice_get (instances_seen s n) i)
 abbrev pub params_given : Seen → ℕ → ℕ → Params
 params_given s n i = if spawns_in (slice_get s.layout.streams n) then params_seen s n i else no_params
 
--- an instance that lives, and the eval clause of its stream, which may be asked for it where parameters of its own are of their kinds
+-- an instance that lives, and the eval clause of its stream, which may be evaluated for it where parameters of its own are of their kinds
 pub record IsActiveTask (plan : Plan) (s : Seen) (t : Task) : Type 0 where
   pub stream : Stream
   pub stream_is : slice_get plan.spec.streams t.stream ≡ Some stream

@@ -93,7 +93,7 @@ fn note_condition(
 }
 
 /// Lists the instances of a stream whose close condition is true, and answers the least kind of a fault among the conditions. The
-/// condition is asked of all instances.
+/// condition is evaluated for all instances.
 fn find_among<S: StreamStore>(
     plan: &Plan,
     moment: &Moment,
@@ -125,7 +125,7 @@ fn find_among<S: StreamStore>(
     least
 }
 
-/// The same where the condition is false for all instances but one: it is asked of that one alone.
+/// The same where the condition is false for all instances but one: it is evaluated for that one alone.
 fn find_one<S: StreamStore>(
     plan: &Plan,
     moment: &Moment,
@@ -156,8 +156,8 @@ fn find_one<S: StreamStore>(
     note_condition(condition, Task { stream, index }, None, closing)
 }
 
-/// The same of a clause that is active for all instances alike: the condition is asked of the one instance that it may be true for,
-/// where its first comparisons tell which that is, and else of all.
+/// The same of a clause that is active for all instances alike: the condition is evaluated for the one instance that it may be true for,
+/// where its first comparisons tell which that is, and else for all.
 fn find_asked<S: StreamStore>(
     plan: &Plan,
     moment: &Moment,
@@ -195,7 +195,7 @@ fn find_asked<S: StreamStore>(
     }
 }
 
-/// The same for a clause that counts from the birth of each instance: the condition is asked of the instances that have a deadline.
+/// The same for a clause that counts from the birth of each instance: the condition is evaluated for the instances that have a deadline.
 fn find_due<S: StreamStore>(
     plan: &Plan,
     moment: &Moment,
@@ -274,7 +274,7 @@ fn find_in_stream<S: StreamStore>(
 }
 
 /// Lists the instances whose close condition is true, by the streams' numbers and in the order of birth; or answers the first stream of
-/// which a condition has a fault, with the least kind. Those that have a close clause are told.
+/// which a condition has a fault, with the least kind. Those that have a close clause are given.
 pub(crate) fn find_closings<S: StreamStore>(
     plan: &Plan,
     duties: &[u32],

@@ -28,7 +28,7 @@ use lola_model::store::StreamStore;
 use lola_value::brief::Brief;
 use lola_value::value::{FaultKind, Outcome, Value};
 
-/// The lesser of two kinds, by their numbers.
+/// The lesser of two kinds of faults, by their numbers.
 fn lesser(kind: FaultKind, other: Option<FaultKind>) -> FaultKind
     ensures { lesser_kind kind other ≡ Some result }
 {
@@ -38,7 +38,7 @@ fn lesser(kind: FaultKind, other: Option<FaultKind>) -> FaultKind
     }
 }
 
-/// The least kind so far, and that of an outcome, if it is a fault.
+/// The least kind of a fault so far, with that of an outcome, if it is a fault.
 pub(crate) fn with_fault(outcome: Outcome, least: Option<FaultKind>) -> Option<FaultKind>
     ensures { result ≡ add_fault outcome least }
 {
@@ -197,7 +197,7 @@ fn add_value<S: StreamStore>(
     }
 }
 
-/// The values of the instances that were asked of a stream with a spawn clause, of which these are the outcomes.
+/// The values of the instances that were evaluated of a stream with a spawn clause, of which these are the outcomes.
 fn add_values<S: StreamStore>(
     store: &S,
     stream: u32,
@@ -273,7 +273,7 @@ pub(crate) fn is_hidden(show: Show, stream: &Stream) -> bool
     }
 }
 
-/// The values of a stream, which may have lines. A stream of which no instance was asked is passed over at once.
+/// The values of a stream, which may have lines. A stream of which no instance was evaluated is passed over at once.
 fn add_asked<S: StreamStore>(
     store: &S,
     stream: &Stream,
@@ -312,7 +312,7 @@ fn add_asked<S: StreamStore>(
     );
 }
 
-/// The values of all streams that may have lines, by the streams' numbers and in the order of birth. Which streams these are is told.
+/// The values of all streams that may have lines, by the streams' numbers and in the order of birth. Which streams these are is given.
 pub(crate) fn collect<S: StreamStore>(
     plan: &Plan,
     duties: &[u32],

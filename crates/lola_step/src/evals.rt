@@ -45,7 +45,7 @@ use lola_value::value::{Outcome, Params};
 use lola_workers::Share;
 use std::thread::Threads;
 
-/// Whether a spawn clause did not fail.
+/// Whether a spawn clause neither has a fault nor is poisoned.
 fn is_fine(spawn_result: SpawnResult) -> bool
     ensures { result ≡ is_fine_spawn_result (Some spawn_result) }
 {
@@ -55,8 +55,8 @@ fn is_fine(spawn_result: SpawnResult) -> bool
     }
 }
 
-/// Whether a stream that has a duty in a layer runs in it: its clause may be active for some of its instances and its spawn clause did
-/// not fail.
+/// Whether a stream that has a duty in a layer runs in it: its clause may be active for some of its instances, and its spawn
+/// clause neither has a fault nor is poisoned.
 fn runs(plan: &Plan, moment: &Moment, spawn_results: &[SpawnResult], n: usize) -> bool
     requires pacings { n < length plan.now.pacings }
     requires spawn_results { n < length spawn_results.now }
@@ -67,7 +67,7 @@ fn runs(plan: &Plan, moment: &Moment, spawn_results: &[SpawnResult], n: usize) -
     may_be_active(moment, eval_pacing_at(plan.pacings.as_slice(), n)) && is_fine(spawn_results[n])
 }
 
-/// The same, where the rate that was asked about last is known.
+/// The same, where the rate that was looked at last is known.
 fn runs_now(
     plan: &Plan,
     moment: &Moment,
@@ -87,8 +87,8 @@ fn runs_now(
         && is_fine(spawn_results[n])
 }
 
-/// Where the one instance of stream `n` stands that its eval clause is to be asked for, if the stream runs in a layer and the clause is
-/// active for all instances alike; else nothing is said.
+/// Where the one instance of stream `n` stands that its eval clause is to be evaluated for, if the stream runs in a layer and the clause
+/// is active for all instances alike; else nothing is said.
 fn seek_stream<S: StreamStore>(
     plan: &Plan,
     moment: &Moment,
@@ -120,8 +120,8 @@ fn seek_stream<S: StreamStore>(
     }
 }
 
-/// Notes of each stream that runs in a layer where the one instance stands that is to be asked, where that is known. Those of its
-/// streams that have parameters are told; of the others nothing is known.
+/// Notes of each stream that runs in a layer where the one instance stands that is to be evaluated, where that is known. Those of its
+/// streams that have parameters are given; of the others nothing is known.
 fn seek_layer<S: StreamStore>(
     plan: &Plan,
     duties: &[u32],
@@ -148,7 +148,7 @@ fn seek_layer<S: StreamStore>(
     }
 }
 
-/// Where the instances of stream `n` stand that are to be asked; nothing is said past the end of the list.
+/// Where the instances of stream `n` stand that are to be evaluated; nothing is said past the end of the list.
 fn sought_of(sought: &[Whereabouts], n: usize) -> Whereabouts
     ensures { result ≡ sought_at sought.now n }
 {
@@ -236,8 +236,8 @@ fn add_active<S: StreamStore>(
     }
 }
 
-/// A task for each instance of a stream that is asked at a moment for a clause with a pacing: for the one that stands at these
-/// whereabouts, if it lives, and where nothing is known of all that the clause may be active for.
+/// A task for each instance of a stream that a clause with a pacing is to be evaluated for at a moment: for the one that stands at
+/// these whereabouts, if it lives, and where nothing is known of all that the clause may be active for.
 fn add_asked<S: StreamStore>(
     moment: &Moment,
     sought: Whereabouts,
@@ -268,8 +268,8 @@ fn add_asked<S: StreamStore>(
     }
 }
 
-/// Lists the tasks of stream `n` in a layer, if it runs there, one for each instance that is asked in order of birth, and notes where
-/// their outcomes will stand.
+/// Lists the tasks of stream `n` in a layer, if it runs there, one for each instance that is to be evaluated, in order of birth, and notes
+/// where their outcomes will stand.
 fn gather_stream<S: StreamStore>(
     plan: &Plan,
     moment: &Moment,
@@ -325,7 +325,7 @@ fn gather_stream<S: StreamStore>(
 }
 
 /// Lists the tasks of a layer behind those of the layers before: for each stream that runs in it, by the streams' numbers, one for each
-/// instance that is asked in order of birth. Those that have a duty in it are told, and the rate that was asked about last in the step.
+/// instance that is to be evaluated, in order of birth. Those that have a duty in it are given, and the rate that was looked at last in the step.
 fn gather<S: StreamStore>(
     plan: &Plan,
     duties: &[u32],
@@ -547,9 +547,9 @@ fn answer_tasks<R: Threads + Sync, S: StreamStore + Sync, G: Gate + Sync>(
     }
 }
 
-/// Finds which instances of a layer are to be asked, evaluates these, shared out among at most so many threads, and then gives each its
+/// Finds which instances of a layer are to be evaluated, does so, shared out among at most so many threads, and then gives each its
 /// outcome. The tasks and their outcomes are kept behind those of the layers before, those of a stream where its span says. The streams that
-/// have a duty in the layer are told, and those of them with parameters. Answers whether an outcome is a fault.
+/// have a duty in the layer are given, and those of them with parameters. Answers whether an outcome is a fault.
 pub(crate) fn eval_layer<R: Threads + Sync, S: StreamStore + Sync, G: Gate + Sync>(
     rt: &R,
     gate: &G,

@@ -105,7 +105,7 @@ fn whole_count<S: StreamStore>(store: &S, stream: u32, tasks: &[Task]) -> usize
     }
 }
 
-/// Gives the instances of a whole stream their outcomes, by at most so many threads.
+/// Gives all instances of a stream their outcomes, by at most so many threads.
 fn give_stream<R: Threads + Sync, S: StreamStore>(
     rt: &R,
     store: &mut S,
@@ -128,7 +128,7 @@ fn give_stream<R: Threads + Sync, S: StreamStore>(
     store.give_each(rt, stream, results, workers);
 }
 
-/// Gives the first of these tasks their outcomes: those of a whole stream by at most so many threads, or else one. Answers how many.
+/// Gives the first of these tasks their outcomes: those of all instances of a stream by at most so many threads, or else one. Answers how many.
 fn give_next<R: Threads + Sync, S: StreamStore>(
     rt: &R,
     store: &mut S,

@@ -29,7 +29,7 @@ fn outcome_at(inputs: &[Outcome], input: usize) -> Outcome
     }
 }
 
-/// Tells an input its outcome, which is a value or missing.
+/// Gives an input its outcome, which is a value or missing.
 fn tell<S: StreamStore>(store: &mut S, stream: u32, outcome: Outcome)
     requires running { IsRunning (S.seen store.old) }
     requires index { 0 < length (instances_seen (S.seen store.old) stream) }
@@ -45,7 +45,8 @@ fn tell<S: StreamStore>(store: &mut S, stream: u32, outcome: Outcome)
     }
 }
 
-/// Tells each input that has a value. At a deadline's step there are no inputs, and none is told. Which streams are inputs is told too.
+/// Gives each input that has a value its outcome. At a deadline's step there are no inputs, and none gets one. Which streams are inputs is
+/// given too.
 pub(crate) fn tell_inputs<S: StreamStore>(
     plan: &Plan,
     duties: &[u32],

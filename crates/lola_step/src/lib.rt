@@ -1,6 +1,6 @@
 //! One step of a run.
 //!
-//! Promised: over a store that stands for the content behind the rows so far, a step gives the next row of the model, or its
+//! Promised: over a store that stands for the content behind the steps so far, a step gives the next row of the model, or its
 //! fault, or leaves all as it was.
 //! Not promised: what a store remembers beyond its content.
 #![tactic(auto)]

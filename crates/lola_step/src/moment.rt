@@ -67,7 +67,7 @@ fn is_deadline(rate: &Rate, after: u64) -> bool
     }
 }
 
-/// The rate that was asked about last at a moment, and whether the moment is one of its deadlines: the streams of a step mostly have one
+/// The rate that was looked at last at a moment, and whether the moment is one of its deadlines: the streams of a step mostly have one
 /// rate, and then it is reckoned once.
 #[derive(Clone, Copy, Debug)]
 pub(crate) struct LastRate {
@@ -76,7 +76,7 @@ pub(crate) struct LastRate {
 }
 
 impl LastRate {
-    // None was asked about.
+    // None was looked at.
     pub(crate) fn none() -> LastRate
         ensures { (m : Moment) → IsKnownAt m result }
     {
@@ -94,7 +94,7 @@ fn is_same(rate: &Rate, other: &Rate) -> bool
     rate.num() == other.num() && rate.den() == other.den()
 }
 
-// Whether a moment is a deadline of a rate, if that was the one asked about last.
+// Whether a moment is a deadline of a rate, if that was the one looked at last.
 fn known(last: LastRate, rate: &Rate) -> Option<bool>
     ensures { (m : Moment) → IsKnownAt m last → IfSome result (λ b. b ≡ is_deadline_of rate.now (m.time - m.start)) }
 {
@@ -198,7 +198,7 @@ pub(crate) fn is_active_for<S: StreamStore>(
     }
 }
 
-/// Whether a pacing may be active for some instance, where the rate that was asked about last is known.
+/// Whether a pacing may be active for some instance, where the rate that was looked at last is known.
 pub(crate) fn may_be_active_now(
     moment: &Moment,
     pacing: &Option<Pacing>,

@@ -32,13 +32,13 @@ pub struct Span {
     pub count: usize,
 }
 
-/// The code of a plan's eval clauses, and what its steps note: what spawn clauses did, the places of a stream's instances that are asked, the instances that were asked with
-/// their outcomes, which instances are closed, and the values.
+/// The code of a plan's eval clauses, and what its steps note: what spawn clauses did, the places of a stream's instances that are to be
+/// evaluated, the instances that were evaluated with their outcomes, which instances are closed, and the values.
 #[derive(Drop)]
 pub struct Scratch {
     pub(crate) spawn_results: Vec<SpawnResult>,
     pub(crate) spans: Vec<Span>,
-    // where the instances stand that are to be asked
+    // where the instances stand that are to be evaluated
     pub(crate) sought: Vec<Whereabouts>,
     pub(crate) places: Vec<u32>,
     pub(crate) tasks: Vec<Task>,
@@ -54,7 +54,7 @@ pub struct Scratch {
     pub(crate) code: PlanCode,
     // no step was evaluated yet
     pub(crate) is_first: bool,
-    // in the last step that was evaluated a spawn clause failed or an outcome was a fault
+    // in the last step that was evaluated a spawn clause had a fault of its own or an outcome was a fault
     pub(crate) is_faulty: bool,
 }
 
@@ -85,7 +85,7 @@ fn count_instances<S: StreamStore>(plan: &Plan, store: &S) -> usize
     count
 }
 
-/// The same, where the streams that have a spawn clause are told: where there are none, each stream has its one instance.
+/// The same, where the streams that have a spawn clause are given: where there are none, each stream has its one instance.
 #[tactic(auto, using(crate::proofs::Counts::two_exactly))]
 fn instances_in_step<S: StreamStore>(plan: &Plan, births: &[u32], store: &S) -> usize
     requires births { births.now ≡ duties_of plan.now duty.Birth }

@@ -1,4 +1,4 @@
-//! Which instances a clause is to be asked for.
+//! Which instances a clause is to be evaluated for.
 
 ghost use Rattle.std.specs.Prelude.{◌≡◌, ◌<◌, slice_get, length};
 ghost use Rattle.lola_model.specs.Store.{IsRunning, layout_of};
@@ -10,7 +10,7 @@ use lola_model::spec::Clause;
 use lola_model::store::{StreamStore, Whereabouts};
 
 /// Where the one instance of a stream stands that the condition of a clause may be true for, where the condition begins with
-/// comparisons of all parameters; else nothing is said. For the others it is false, so they need not be asked.
+/// comparisons of all parameters; else nothing is said. For the others it is false, so they need not be evaluated.
 pub(crate) fn seek<S: StreamStore>(
     plan: &Plan,
     clause: &Clause,

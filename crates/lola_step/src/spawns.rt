@@ -114,7 +114,7 @@ fn spawn_stream<S: StreamStore>(
     }
 }
 
-/// Whether a spawn clause failed so far, or this one did.
+/// Whether a spawn clause had a fault of its own so far, or this one had.
 fn or_faulted(failed: bool, spawn_result: SpawnResult) -> bool
     ensures { result ≡ (is_faulted spawn_result || failed) }
 {
@@ -125,7 +125,7 @@ fn or_faulted(failed: bool, spawn_result: SpawnResult) -> bool
 }
 
 /// Runs the spawn clauses of a layer that are active, by the streams' numbers, and notes what they did. The streams whose spawn clause
-/// belongs to the layer are told. Answers whether one of them failed.
+/// belongs to the layer are given. Answers whether one of them had a fault of its own.
 pub(crate) fn spawn_layer<S: StreamStore>(
     plan: &Plan,
     duties: &[u32],

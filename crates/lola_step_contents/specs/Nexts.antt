@@ -22,7 +22,7 @@ use Rattle.lola_step_contents.specs.Changed.{told, spoiled, after_spawning, spaw
 use Rattle.lola_model.proofs.Orderly.{AreOfRows}
 use Rattle.lola_step_contents.specs.Stages.{Stage, AreSettled, is_spawned, full_row, content_so_far, first_stage, layer_stage, spawn_stage, eval_stage}
 
--- what a spawn clause asks for, before it is known who lives: an instance, nothing, or it fails
+-- what a spawn clause asks for, before it is known who lives: an instance or nothing, unless it has a fault or poison
 abbrev pub asked_of : Result (List Field) Answer → Spawned
 asked_of (Ok p) = Named p
 asked_of (Err (Faulted k)) = SpawnFaulted k

@@ -89,7 +89,7 @@ AreBornBefore n [] = Unit {0}
 AreBornBefore n (x ∷ xs) = (x.born < n) × AreBornBefore n xs
 
 -- after these rows each stream without a spawn clause has its one instance, and all instances of the others were born in the rows.
--- An input's field is told to its one instance, and a time of birth is that of a row, so a step goes by stages only after such rows.
+-- An input's field is given to its one instance, and a time of birth is that of a row, so a step goes by stages only after such rows.
 -- No rows are such, and rows with the next row of an accepted plan behind them
 pub record AreSettled (plan : Plan) (rows : List TableRow) : Type 0 where
   pub one : (n : ℕ) (s : Stream) → slice_get plan.spec.streams n ≡ Some s → s.spawn ≡ None → survivors n s (last_row rows) ≡ the_instance ∷ []

@@ -1,7 +1,7 @@
--- Two lists in step.
+-- Two lists side by side.
 use Rattle.std.specs.Prelude.{List, [], ◌∷◌}
 
--- two lists in step, each item related to its own
+-- two lists side by side, each element related to its own
 abbrev pub Paired : {X : Type 0} → (X → X → Type 0) → List X → List X → Type 0
 Paired R [] [] = Unit {0}
 Paired R (x ∷ xs) (y ∷ ys) = R x y × Paired R xs ys

@@ -1,4 +1,4 @@
-//! Texts by their numbers, and the flags of a sweep, over the entries of a table.
+//! Texts by their numbers, and the flags of a sweep, over the texts that a table holds.
 ghost use Rattle.std.specs.Prelude.{◌≡◌, IfOk, IsTrue, OnErr, map, filter};
 ghost use Rattle.lola_text.specs.Flags.{IsFoundOrNew, IsPlaceOf, NumbersRise, held_as, is_same, is_flagged, flagged_all, flagged_at};
 

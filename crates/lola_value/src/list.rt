@@ -1,4 +1,4 @@
-//! Lists that contracts see as the list of their items.
+//! Lists that contracts see as the list of their elements.
 
 ghost use Rattle.std.specs.Prelude.{◌≡◌, ◌++◌, ◌∷◌, [], IfOk, OnErr, OnOk};
 
@@ -6,7 +6,7 @@ use crate::text::Memory;
 use std::alloc::Global;
 use std::marker::Model;
 
-/// Items in order, each put behind the others.
+/// Elements in order, each put behind the others.
 #[derive(Drop)]
 pub struct ListOf<T> {
     items: Vec<T>,
@@ -33,7 +33,7 @@ impl<T: Drop> ListOf<T> {
         }
     }
 
-    /// An empty list with room for so many items.
+    /// An empty list with room for so many elements.
     pub fn with_room(alloc: Global, count: usize) -> Result<ListOf<T>, Memory>
         ensures { IfOk result (λ list. list ≡ []) }
     {
@@ -42,7 +42,7 @@ impl<T: Drop> ListOf<T> {
         })
     }
 
-    /// Puts an item behind the others; unchanged where there is no memory.
+    /// Puts an element behind the others; unchanged where there is no memory.
     pub fn push(&mut self, item: T) -> Result<(), Memory>
         ensures ok { OnOk result (self.new ≡ self.old ++ item ∷ []) }
         ensures err { OnErr result (self.new ≡ self.old) }
@@ -51,7 +51,7 @@ impl<T: Drop> ListOf<T> {
         Ok(())
     }
 
-    /// Takes all items out and keeps the room.
+    /// Takes all elements out and keeps the room.
     pub fn clear(&mut self)
         ensures { self.new ≡ [] }
     {

@@ -169,7 +169,7 @@ fn do_from<J: Job, G: Gate>(gate: &G, job: &J, results: &mut [Brief], start: usi
     }
 }
 
-// Settles some tasks from one on: by the outcomes that a share has of these, or else by doing a piece of them. Answers how many.
+// Gives some tasks from one on their outcomes: those that a share has of these, or else by doing a piece of them. Answers how many.
 fn settle<J: Job, G: Gate>(
     gate: &G,
     job: &J,
