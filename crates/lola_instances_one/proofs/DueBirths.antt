@@ -14,7 +14,7 @@ use Rattle.lola_model.specs.NextStep.{earlier, first_due}
 use Rattle.lola_model.proofs.Strictly.{Contains-here, Contains-there}
 use Rattle.lola_instances_one.specs.declared.queue.Birth.{Birth}
 use Rattle.lola_instances_one.specs.Dues.{due_of_births}
-use Rattle.lola_instances_one.specs.Moments.{cut, due_at, least_due, too_late}
+use Rattle.lola_instances_one.specs.Moments.{cut, due_at, least_due, after_latest}
 use Rattle.lola_instances_one.specs.Queues.{births_at, births_of, HasBirths, IsWithout}
 use Rattle.lola_instances_one.proofs.Queues.{least_within}
 
@@ -54,7 +54,7 @@ module _ (rates : List Ratio) (from : ℕ) where
           let behind : least_due rates from xs ≤ due_at rates b from = rest (omega arith) in
           omega arith
 
-  at_least : (t : ℕ) (xs : List ℕ) → t ≤ too_late → ((b : ℕ) → 0 < births_at b xs → t ≤ due_at rates b from) → t ≤ least_due rates from xs
+  at_least : (t : ℕ) (xs : List ℕ) → t ≤ after_latest → ((b : ℕ) → 0 < births_at b xs → t ≤ due_at rates b from) → t ≤ least_due rates from xs
   at_least t [] within all = within
   at_least t (x ∷ xs) within all =
       let one : t ≤ due_at rates x from = all x (let more = births_more x x xs in let mine = own x in omega arith) in

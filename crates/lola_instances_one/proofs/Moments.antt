@@ -12,39 +12,39 @@ use Rattle.lola_model.specs.Dues.{is_due}
 use Rattle.lola_model.specs.Steps.{first_after, earlier_of_two}
 use Rattle.lola_model.specs.StepOrder.{IsPositiveRate, AreRates}
 use Rattle.lola_model.proofs.Deadlines.{next_deadline_above, next_deadline_least}
-use Rattle.lola_instances_one.specs.Moments.{cut, due_at, due_by, too_late}
+use Rattle.lola_instances_one.specs.Moments.{cut, due_at, due_by, after_latest}
 
 -- the answer of a rate for an offset
-found_if : (b : Bool) (m x n offset born : ℕ) → ◌≡◌ {A = Option (ℕ × ℕ)} (Some (n, offset)) (if b then Some (m, x) else None) → min (born + offset) too_late ≡ min (born + x) too_late
+found_if : (b : Bool) (m x n offset born : ℕ) → ◌≡◌ {A = Option (ℕ × ℕ)} (Some (n, offset)) (if b then Some (m, x) else None) → min (born + offset) after_latest ≡ min (born + x) after_latest
 found_if true m x n offset born h =
-    let e : ◌≡◌ {A = ℕ × ℕ} (n, offset) (m, x) = cc in ap (λ (p : ℕ × ℕ). min (born + p.1) too_late) e
+    let e : ◌≡◌ {A = ℕ × ℕ} (n, offset) (m, x) = cc in ap (λ (p : ℕ × ℕ). min (born + p.1) after_latest) e
 found_if false m x n offset born h = absurd (cc)
 
-none_if : (b : Bool) (m x born : ℕ) → nat_le x latest ≡ b → ◌≡◌ {A = Option (ℕ × ℕ)} None (if b then Some (m, x) else None) → too_late ≡ min (born + x) too_late
+none_if : (b : Bool) (m x born : ℕ) → nat_le x latest ≡ b → ◌≡◌ {A = Option (ℕ × ℕ)} None (if b then Some (m, x) else None) → after_latest ≡ min (born + x) after_latest
 none_if true m x born e h = absurd (cc)
 none_if false m x born e h = let above : latest < x = leb-false x latest e in omega arith
 
 -- a sum that is cut may be cut before
-pub cut_before : (n : ℕ) → min (min n (2 ^ 64 - 1)) too_late ≡ min n too_late
+pub cut_before : (n : ℕ) → min (min n (2 ^ 64 - 1)) after_latest ≡ min n after_latest
 cut_before n = omega arith
 
 -- is that of the deadline, where it is a time and where it is none
-pub due_found : (born from : ℕ) (r : Ratio) (n offset : ℕ) → ◌≡◌ {A = Option (ℕ × ℕ)} (Some (n, offset)) (next_in_time r (from - born - 1)) → min (born + offset) too_late ≡ due_by r born from
+pub due_found : (born from : ℕ) (r : Ratio) (n offset : ℕ) → ◌≡◌ {A = Option (ℕ × ℕ)} (Some (n, offset)) (next_in_time r (from - born - 1)) → min (born + offset) after_latest ≡ due_by r born from
 unfolding due_by
 due_found born from r n offset h =
     found_if (nat_le (next_deadline r (from - born - 1)) latest) (next_number r (from - born - 1)) (next_deadline r (from - born - 1)) n offset born h
 
-pub due_none : (born from : ℕ) (r : Ratio) → ◌≡◌ {A = Option (ℕ × ℕ)} None (next_in_time r (from - born - 1)) → too_late ≡ due_by r born from
+pub due_none : (born from : ℕ) (r : Ratio) → ◌≡◌ {A = Option (ℕ × ℕ)} None (next_in_time r (from - born - 1)) → after_latest ≡ due_by r born from
 unfolding due_by
 due_none born from r h =
     none_if (nat_le (next_deadline r (from - born - 1)) latest) (next_number r (from - born - 1)) (next_deadline r (from - born - 1)) born refl h
 
 -- the earlier of the first rate's and the others'
-two : (o : Option ℕ) (born n : ℕ) → cut (Some (born + earlier_of_two o n)) ≡ min (min (born + n) too_late) (cut (option_map (λ t. born + t) o))
+two : (o : Option ℕ) (born n : ℕ) → cut (Some (born + earlier_of_two o n)) ≡ min (min (born + n) after_latest) (cut (option_map (λ t. born + t) o))
 two None born n = omega arith
 two (Some s) born n = omega arith
 
-pub due_none_of : (born from : ℕ) → due_at [] born from ≡ too_late
+pub due_none_of : (born from : ℕ) → due_at [] born from ≡ after_latest
 unfolding due_at
 due_none_of born from = refl
 
@@ -53,13 +53,13 @@ unfolding due_at due_by
 due_more r rs born from = two (first_after rs (from - born - 1)) born (next_deadline r (from - born - 1))
 
 -- it is never later than the moment after all
-pub due_within : (rates : List Ratio) (born from : ℕ) → due_at rates born from ≤ too_late
+pub due_within : (rates : List Ratio) (born from : ℕ) → due_at rates born from ≤ after_latest
 due_within [] born from = let e = due_none_of born from in omega arith
 due_within (r ∷ rs) born from = let e = due_more r rs born from in let k = due_within rs born from in omega arith
 
 -- a deadline of one rate stays the next until it is passed
-same_moment : (born from to x y : ℕ) → from ≤ to → to ≤ min (born + x) too_late → from - born - 1 < x → to - born - 1 < y → (to - born - 1 < x → y ≤ x) → (from - born - 1 < y → x ≤ y)
-    → min (born + y) too_late ≡ min (born + x) too_late
+same_moment : (born from to x y : ℕ) → from ≤ to → to ≤ min (born + x) after_latest → from - born - 1 < x → to - born - 1 < y → (to - born - 1 < x → y ≤ x) → (from - born - 1 < y → x ≤ y)
+    → min (born + y) after_latest ≡ min (born + x) after_latest
 same_moment born from to x y order until above above' least least' =
     let k : y ≤ x = least (omega arith) in
     let l : x ≤ y = least' (omega arith) in
@@ -97,17 +97,17 @@ rates_more rates i r within is rate so_far rest =
     let split : drop i rates ≡ r ∷ drop (i + 1) rates = rw (add-one) (drop-cons rates i r within ∙ ap (λ x. x ∷ drop (suc i) rates) (sym is)) in
     so_far (subst AreRates (sym split) (rate, rest))
 
-pub all_done : (rates : List Ratio) (i least born from : ℕ) → length rates ≤ i → least ≤ too_late → min least (due_at (drop i rates) born from) ≡ due_at rates born from → least ≡ due_at rates born from
+pub all_done : (rates : List Ratio) (i least born from : ℕ) → length rates ≤ i → least ≤ after_latest → min least (due_at (drop i rates) born from) ≡ due_at rates born from → least ≡ due_at rates born from
 all_done rates i least born from end within so_far =
     let split : drop i rates ≡ [] = drop_all i rates end in
-    let e : due_at (drop i rates) born from ≡ too_late = ap (λ rs. due_at rs born from) split ∙ due_none_of born from in
+    let e : due_at (drop i rates) born from ≡ after_latest = ap (λ rs. due_at rs born from) split ∙ due_none_of born from in
     omega arith
 
 pub all_rates : (rates : List Ratio) (i : ℕ) → length rates ≤ i → (AreRates (drop i rates) → AreRates rates) → AreRates rates
 all_rates rates i end so_far = so_far (subst AreRates (sym (drop_all i rates end)) tt)
 
 -- a moment is a deadline of one of the rates where it is the first of all that are not before it
-now_if : (born time x : ℕ) → time ≤ latest → time - born - 1 < x → nat_eq (min (born + x) too_late) time ≡ (nat_lt 0 (time - born) && nat_eq x (time - born))
+now_if : (born time x : ℕ) → time ≤ latest → time - born - 1 < x → nat_eq (min (born + x) after_latest) time ≡ (nat_lt 0 (time - born) && nat_eq x (time - born))
 now_if born time x in_time above = grind (arith, nat_tests)
 
 either : (a b time : ℕ) → time ≤ a → time ≤ b → nat_eq (min a b) time ≡ (nat_eq a time || nat_eq b time)

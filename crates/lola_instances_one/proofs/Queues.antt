@@ -10,7 +10,7 @@ use Rattle.std.proofs.lemmas.List.Sorted.{All-permutation, IsNonDecreasingBy-dro
 use Rattle.lola_value.specs.Ratio.{Ratio}
 use Rattle.lola_model.specs.StepOrder.{AreRates}
 use Rattle.lola_instances_one.specs.declared.queue.Birth.{Birth}
-use Rattle.lola_instances_one.specs.Moments.{due_at, least_due, too_late}
+use Rattle.lola_instances_one.specs.Moments.{due_at, least_due, after_latest}
 use Rattle.lola_instances_one.specs.Queues.{births_of, AreInOrder, IsEntry, IsQueue, IsWithout}
 use Rattle.lola_instances_one.proofs.Moments.{due_stays, due_within}
 
@@ -92,7 +92,7 @@ others_right rates passed born old new h w =
 
 -- the first entry that is due no earlier than a moment has the least deadline of all behind it
 module _ (rates : List Ratio) (passed from : ℕ) where
-  not_before : (t : ℕ) (es : List Birth) → t ≤ too_late → All (λ (x : Birth). t ≤ due_at rates x.born from) es → t ≤ least_due rates from (births_of es)
+  not_before : (t : ℕ) (es : List Birth) → t ≤ after_latest → All (λ (x : Birth). t ≤ due_at rates x.born from) es → t ≤ least_due rates from (births_of es)
   not_before t [] within all = within
   not_before t (e ∷ es) within all =
       let P = λ (x : Birth). t ≤ due_at rates x.born from in
@@ -103,7 +103,7 @@ module _ (rates : List Ratio) (passed from : ℕ) where
   first_is_least : (e : Birth) (es : List Birth) → IsQueue rates passed (e ∷ es) → passed ≤ from → from ≤ e.due → least_due rates from (births_of (e ∷ es)) ≡ e.due
   first_is_least e es h later until =
       let own : due_at rates e.born from ≡ e.due = (All-head (IsEntry rates passed) e es h.entries).next from later until in
-      let within : due_at rates e.born from ≤ too_late = due_within rates e.born from in
+      let within : due_at rates e.born from ≤ after_latest = due_within rates e.born from in
       let others : e.due ≤ least_due rates from (births_of es) = not_before e.due es (omega arith) behind in
       omega arith
     where
@@ -132,12 +132,12 @@ module _ (rates : List Ratio) (passed from : ℕ) where
       ap (λ es. least_due rates from (births_of es)) split in
       omega arith
 
-  pub walk_done : (queue : List Birth) (i least : ℕ) → length queue ≤ i → least ≤ too_late
+  pub walk_done : (queue : List Birth) (i least : ℕ) → length queue ≤ i → least ≤ after_latest
       → min least (least_due rates from (births_of (drop i queue))) ≡ least_due rates from (births_of queue) → least ≡ least_due rates from (births_of queue)
   walk_done queue i least end within so_far =
-      let none : least_due rates from (births_of (drop i queue)) ≡ too_late = ap (λ es. least_due rates from (births_of es)) (drop_all i queue end) in
+      let none : least_due rates from (births_of (drop i queue)) ≡ after_latest = ap (λ es. least_due rates from (births_of es)) (drop_all i queue end) in
       omega arith
 
-  pub least_within : (bs : List ℕ) → least_due rates from bs ≤ too_late
+  pub least_within : (bs : List ℕ) → least_due rates from bs ≤ after_latest
   least_within [] = omega arith
   least_within (b ∷ bs) = let k = least_within bs in omega arith

@@ -9,7 +9,7 @@ ghost use Rattle.lola_instances_one.specs.Moments.{due_at, due_by};
 use lola_value::rate::Rate;
 
 /// The moment after the latest time, which stands for all later ones.
-pub const TOO_LATE: u64 = 4_000_000_000_000_000_001;
+pub const AFTER_LATEST: u64 = 4_000_000_000_000_000_001;
 
 // The moment of a rate's first deadline that is not before `from`, counted from a birth.
 fn due_of(rate: &Rate, born: u64, from: u64) -> u64
@@ -18,8 +18,8 @@ fn due_of(rate: &Rate, born: u64, from: u64) -> u64
 {
     let passed = from.saturating_sub(born).saturating_sub(1);
     match rate.next_after(passed) {
-        Some((_number, offset)) => born.saturating_add(offset).min(TOO_LATE),
-        None => TOO_LATE,
+        Some((_number, offset)) => born.saturating_add(offset).min(AFTER_LATEST),
+        None => AFTER_LATEST,
     }
 }
 
@@ -28,7 +28,7 @@ pub fn next_due(rates: &[Rate], born: u64, from: u64) -> u64
     ensures due { result ≡ due_at rates.now born from }
     ensures rates { AreRates rates.now }
 {
-    let mut least = TOO_LATE;
+    let mut least = AFTER_LATEST;
     for rate in rates {
         least = due_of(rate, born, from).min(least);
     }

@@ -253,7 +253,7 @@ impl Instance {
     }
 
     /// The value of this step, `offset` after the start.
-    pub fn tell(&mut self, step: u64, offset: u64, value: BriefValue)
+    pub fn add_value(&mut self, step: u64, offset: u64, value: BriefValue)
         requires ready { AllReady offset value self.old.panes }
         ensures params { self.new.params ≡ self.old.params }
         ensures born { self.new.born ≡ self.old.born }

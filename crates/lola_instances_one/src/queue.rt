@@ -6,7 +6,7 @@ ghost use Rattle.std.specs.VecDeque.{deque_capacity, deque_len};
 ghost use Rattle.lola_instances_one.specs.Moments.{least_due};
 ghost use Rattle.lola_instances_one.specs.Queues.{births_of, AreInOrder, IsQueue, IsWithout};
 
-use crate::due::{TOO_LATE, next_due};
+use crate::due::{AFTER_LATEST, next_due};
 use lola_value::rate::Rate;
 use std::collections::VecDeque;
 
@@ -158,7 +158,7 @@ pub fn least_from(queue: &VecDeque<Birth>, rates: &[Rate], passed: u64, from: u6
     requires { IsQueue rates.now passed queue.now.items }
     ensures { result ≡ least_due rates.now from (births_of queue.now.items) }
 {
-    let mut least = TOO_LATE;
+    let mut least = AFTER_LATEST;
     for i in 0..queue.len() {
         let entry = queue[i];
         if passed <= from && from <= entry.due {

@@ -145,7 +145,7 @@ pub(crate) fn tell_in(slot: &mut Option<Instance>, step: u64, offset: u64, value
     ensures { IsSlotChanged (HasTold step offset value) slot.old slot.new }
 {
     match slot {
-        Some(slot) => slot.tell(step, offset, value),
+        Some(slot) => slot.add_value(step, offset, value),
         None => unreachable!(),
     }
 }
@@ -380,7 +380,7 @@ impl Cells {
     }
 
     /// A value of this step, for the instance at a place.
-    pub fn tell(&mut self, place: usize, step: u64, offset: u64, value: BriefValue)
+    pub fn add_value(&mut self, place: usize, step: u64, offset: u64, value: BriefValue)
         requires place { place < length self.old.items }
         requires ready { MatchOption (slice_get self.old.items place) ⊥ (λ s. AllReady offset value s.panes) }
         ensures changed { IsChangedAt (HasTold step offset value) place self.old.items self.new.items }

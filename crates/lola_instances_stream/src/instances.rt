@@ -463,7 +463,7 @@ impl Instances {
         ensures past { (start time : ℕ) (names : Naming) (i : ℕ) (values : List (ℕ × Field)) → offset ≡ time - start → start ≤ time → IsHeld names value
             → RemembersAt start time step names (slice_get self.old.slots i) values → RemembersAt start time step names (slice_get self.new.slots i) values }
     {
-        self.slots.tell(index, step, offset, value);
+        self.slots.add_value(index, step, offset, value);
     }
 
     /// Poisons the instance at a place in this step.

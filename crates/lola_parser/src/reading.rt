@@ -22,7 +22,7 @@ use lola_value::text::Memory;
 use std::alloc::Global;
 
 /// The most nestings that a whole expression or formula may have.
-const MAX_Nestings: usize = 512;
+const MAX_NESTINGS: usize = 512;
 
 /// The token at `deep` stands in an expression that begins behind the bracket, at `start`, and ends at a `)`.
 fn is_enclosed(
@@ -60,7 +60,7 @@ fn place_from(alloc: Global, bytes: &[u8], tokens: &[Token], deep: usize) -> Res
     let Some(start) = behind_bracket(front) else {
         return Ok(own);
     };
-    if count_of_nestings(front, start) != MAX_Nestings {
+    if count_of_nestings(front, start) != MAX_NESTINGS {
         return Ok(own);
     }
     if !is_enclosed(alloc, bytes, tokens, start, deep)? {

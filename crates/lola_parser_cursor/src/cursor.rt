@@ -17,7 +17,7 @@ use std::alloc::Global;
 use std::marker::Model;
 
 /// The most nestings that a whole expression or formula may have.
-pub const MAX_Nestings: u32 = 512;
+pub const MAX_NESTINGS: u32 = 512;
 
 /// Levels that may be nested: more than an expression has nestings, of which each level takes one.
 pub const MAX_LEVELS: usize = 514;
@@ -75,7 +75,7 @@ impl<'a> Parser<'a> {
             bytes,
             tokens,
             at: 0,
-            room: MAX_Nestings,
+            room: MAX_NESTINGS,
         }
     }
 
@@ -113,7 +113,7 @@ impl<'a> Parser<'a> {
         ensures rest { self.new.rest ≡ self.old.rest }
         ensures room { self.new.room ≡ max_nestings }
     {
-        self.room = MAX_Nestings;
+        self.room = MAX_NESTINGS;
     }
 
     fn front(&self) -> Option<Token>

@@ -83,13 +83,13 @@ passing_none : (b : Bool) (n : ℕ) (rest : List ℕ) → (if b then n ∷ rest 
 passing_none true n rest e = absurd (cc)
 passing_none false n rest e = (refl, e)
 
-none_born : (plan : Plan) (n : ℕ) (xs : List Stream) → numbers_of (has_duty plan duty.Birth) n xs ≡ [] → (i : ℕ) (x : Stream) → slice_get xs i ≡ Some x → has_clause x.spawn ≡ false
+none_born : (plan : Plan) (n : ℕ) (xs : List Stream) → numbers_of (has_duty plan duty.AnySpawn) n xs ≡ [] → (i : ℕ) (x : Stream) → slice_get xs i ≡ Some x → has_clause x.spawn ≡ false
 none_born plan n [] e i x at = absurd (cc)
 none_born plan n (y ∷ ys) e zero x at =
     let q : y ≡ x = cc in
-    subst (λ (z : Stream). has_clause z.spawn ≡ false) q (passing_none (has_clause y.spawn) n (numbers_of (has_duty plan duty.Birth) (n + 1) ys) e).0
+    subst (λ (z : Stream). has_clause z.spawn ≡ false) q (passing_none (has_clause y.spawn) n (numbers_of (has_duty plan duty.AnySpawn) (n + 1) ys) e).0
 none_born plan n (y ∷ ys) e (suc i) x at =
-    none_born plan (n + 1) ys (passing_none (has_clause y.spawn) n (numbers_of (has_duty plan duty.Birth) (n + 1) ys) e).1 i x at
+    none_born plan (n + 1) ys (passing_none (has_clause y.spawn) n (numbers_of (has_duty plan duty.AnySpawn) (n + 1) ys) e).1 i x at
 
 no_spawn : (o : Option Clause) → has_clause o ≡ false → o ≡ None
 no_spawn None e = refl
@@ -106,9 +106,9 @@ nothing_listed : (ns : List ℕ) → length ns ≡ 0 → ns ≡ []
 nothing_listed [] e = refl
 nothing_listed (n ∷ ns) e = absurd (omega (arith, e))
 
-pub two_exactly : (plan : Plan) (s : Seen) (births : List ℕ) → IsOf plan s → births ≡ duties_of plan duty.Birth → length births ≡ 0 → instances_to_come s ≡ 2 * length plan.spec.streams
+pub two_exactly : (plan : Plan) (s : Seen) (births : List ℕ) → IsOf plan s → births ≡ duties_of plan duty.AnySpawn → length births ≡ 0 → instances_to_come s ≡ 2 * length plan.spec.streams
 two_exactly plan s births of listed empty =
-    let none : duties_of plan duty.Birth ≡ [] = sym listed ∙ nothing_listed births empty in
+    let none : duties_of plan duty.AnySpawn ≡ [] = sym listed ∙ nothing_listed births empty in
     let e : length s.streams ≡ length plan.spec.streams = of.streams in
     let a : of_streams s.streams ≡ 2 * length s.streams =
     two_in_each s.streams (λ n lt. (let x = element plan.spec.streams n (omega (arith, lt, e)) in

@@ -31,7 +31,7 @@ has_parameters x = are_some x.parameters
 -- parameters, by its close clause, and as one whose values may have lines
 abbrev pub has_duty : Plan → Duty → ℕ → Stream → Bool
 has_duty plan duty.Input n x = is_input x
-has_duty plan duty.Birth n x = has_clause x.spawn
+has_duty plan duty.AnySpawn n x = has_clause x.spawn
 has_duty plan (duty.Spawn layer) n x = has_clause x.spawn && nat_eq (layer_of plan.layers (spawn_node n)) layer
 has_duty plan (duty.Eval layer) n x = not (is_input x) && nat_eq (layer_of plan.layers (eval_node n)) layer
 has_duty plan (duty.Seek layer) n x = has_parameters x && (not (is_input x) && nat_eq (layer_of plan.layers (eval_node n)) layer)
@@ -51,7 +51,7 @@ pub record IsLayerOf (plan : Plan) (layer : ℕ) (l : LayerDuties) : Type 0 wher
 -- the duties of a plan
 pub record IsScheduleOf (plan : Plan) (s : Schedule) : Type 0 where
   pub inputs : s.inputs.items ≡ duties_of plan duty.Input
-  pub births : s.births.items ≡ duties_of plan duty.Birth
+  pub births : s.births.items ≡ duties_of plan duty.AnySpawn
   pub layers : (layer : ℕ) (l : LayerDuties) → slice_get s.layers.items layer ≡ Some l → IsLayerOf plan layer l
   pub closes : s.closes.items ≡ duties_of plan duty.Close
   pub triggers : s.triggers.items ≡ duties_of plan (duty.Shown Triggers)

@@ -22,7 +22,7 @@ pub enum Duty {
     /// It is an input.
     Input,
     /// It has a spawn clause.
-    Birth,
+    AnySpawn,
     /// It has a spawn clause, which belongs to this layer.
     Spawn(u32),
     /// It is no input, and its instances belong to this layer.
@@ -76,7 +76,7 @@ fn has_duty(plan: &Plan, duty: Duty, n: usize, stream: &Stream) -> bool
 {
     match duty {
         Duty::Input => stream.is_input(),
-        Duty::Birth => has_clause(&stream.spawn),
+        Duty::AnySpawn => has_clause(&stream.spawn),
         Duty::Spawn(layer) => {
             has_clause(&stream.spawn) && layer_at(plan.layers.as_slice(), 2 * n + 1) == layer
         }
@@ -145,7 +145,7 @@ impl Schedule {
         ensures of { IfOk result (IsScheduleOf plan.now) }
     {
         let inputs = duties(alloc, plan, Duty::Input)?;
-        let births = duties(alloc, plan, Duty::Birth)?;
+        let births = duties(alloc, plan, Duty::AnySpawn)?;
         let layers = layers_duties(alloc, plan, count)?;
         let closes = duties(alloc, plan, Duty::Close)?;
         let triggers = duties(alloc, plan, Duty::Shown(Show::Triggers))?;

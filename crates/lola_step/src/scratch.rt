@@ -88,7 +88,7 @@ fn count_instances<S: StreamStore>(plan: &Plan, store: &S) -> usize
 /// The same, where the streams that have a spawn clause are given: where there are none, each stream has its one instance.
 #[tactic(auto, using(crate::proofs::Counts::two_exactly))]
 fn instances_in_step<S: StreamStore>(plan: &Plan, births: &[u32], store: &S) -> usize
-    requires births { births.now ≡ duties_of plan.now duty.Birth }
+    requires births { births.now ≡ duties_of plan.now duty.AnySpawn }
     requires accepted { IsAccepted plan.now }
     requires of { IsOf plan.now (S.seen store.now) }
     ensures { result ≡ instances_to_come (S.seen store.now) }

@@ -8,7 +8,7 @@ use Rattle.lola_instances_stream.specs.Cells.{IsTaken, Line, living}
 use Rattle.lola_instances_stream.specs.Changes.{HasTold, IsChangedAt}
 use Rattle.lola_instances_stream.proofs.Known.{known_changed, place_changed}
 use Rattle.lola_instances_stream.proofs.Taken.{stands_get, stands_place, stands_taken}
-use Rattle.lola_instances_stream.proofs.cells.Cells.tell.Goals as goal
+use Rattle.lola_instances_stream.proofs.cells.Cells.add_value.Goals as goal
 
 pub index_mut-requires : goal.index_mut-requires
 index_mut-requires c =

@@ -5,7 +5,7 @@ use Rattle.lola_buffer.specs.Kept.{Kept}
 use Rattle.lola_instances_one.specs.Holdings.{Holdings, holdings}
 use Rattle.lola_instances_one.specs.Telling.{ToldAll}
 use Rattle.lola_instances_one.proofs.Remembering.{remembers-told}
-use Rattle.lola_instances_one.proofs.instance.Instance.tell.Goals as goal
+use Rattle.lola_instances_one.proofs.instance.Instance.add_value.Goals as goal
 
 pub returns-clause-past : goal.returns-clause-past
 returns-clause-past c = λ start time names values h held none o l.
