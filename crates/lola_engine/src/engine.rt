@@ -585,6 +585,7 @@ impl<S: TextStore + Sync> Engine<S> {
         ensures plan { self.new.state.plan ≡ self.old.state.plan }
         ensures given_start { self.new.state.given_start ≡ self.old.state.given_start }
         ensures show { self.new.state.show ≡ self.old.state.show }
+        ensures steps_before { self.new.state.behind ≡ self.old.state.behind }
         ensures merged { OnOk result (self.new.state.merged ≡ row.now.stamp) }
         ensures rows { OnOk result (self.new.state.rows ≡ self.old.state.rows + 1) }
         ensures texts { OnOk result (RenewsTexts S.BOUNDED (S.holds self.old.store) row.now.fields self.old.state self.new.state) }

@@ -13,6 +13,7 @@ use Rattle.lola_monitor_run.specs.Running.{Received}
 use Rattle.lola_monitor.specs.Causes.{Causes, HasCause, HasFailedPut, HasMalformedSource, HasUnreadSource, IsRefusedOrLong, IsWell, StoodMalformedSource, StoodUnreadSource, StoodWell}
 use Rattle.lola_monitor.specs.Command.{Resumption, SnapshotNames}
 use Rattle.lola_monitor.specs.Conclusions.{Concluded}
+use Rattle.lola_monitor.specs.LongStates.{IsLongState}
 use Rattle.lola_monitor.specs.Monitor.{Call, Outside, Wrote, asks_between, call}
 use Rattle.lola_monitor.specs.Pasts.{Inputs, IsUnreadNamed, texts_of}
 use Rattle.lola_monitor.specs.Refusals.{StoodUnread}
@@ -71,8 +72,8 @@ caused_by_means status inputs c means = record {
 abbrev AsksNoSource : Inputs → Outside → Outside → Type 0
 AsksNoSource inputs before after = asks_between before.shelf after.shelf ≡ map given_ask (texts_of inputs)
 
--- a run that goes on from a state, or a snapshot, ends so; of a text that was not read it is known which, and of a state that is refused that
--- no source was asked for
+-- a run that goes on from a state, or a snapshot, ends so; of a text that was not read it is known which, of a state that is refused that
+-- no source was asked for, and of too many steps what state it goes on from
 abbrev pub EndsWith : CallEnd → Inputs → Outside → Outside → Type 0
 EndsWith (Line (Done a l n v)) inputs before after = Unit {0}
 EndsWith (Line (Malformed n row kind)) inputs before after = Unit {0}
@@ -88,7 +89,7 @@ EndsWith (Replayed end) inputs before after = ⊥
 EndsWith (Stated state_end.Unreadable) inputs before after = StoodUnread 1 before after
 EndsWith (Stated (state_end.Damaged line)) inputs before after = AsksNoSource inputs before after
 EndsWith (Stated state_end.OtherSpecification) inputs before after = AsksNoSource inputs before after
-EndsWith (Stated state_end.TooManySteps) inputs before after = Unit {0}
+EndsWith (Stated state_end.TooManySteps) inputs before after = IsLongState inputs.state before.shelf
 EndsWith CutFault inputs before after = Unit {0}
 EndsWith Put inputs before after = Unit {0}
 EndsWith Memory inputs before after = Unit {0}
@@ -108,7 +109,7 @@ resumed_ends (Replayed end) names before after works = works
 resumed_ends (Stated state_end.Unreadable) names before after works = works
 resumed_ends (Stated (state_end.Damaged line)) names before after works = works.asks
 resumed_ends (Stated state_end.OtherSpecification) names before after works = works.asks
-resumed_ends (Stated state_end.TooManySteps) names before after works = tt
+resumed_ends (Stated state_end.TooManySteps) names before after works = absurd works
 resumed_ends CutFault names before after works = tt
 resumed_ends Put names before after works = tt
 resumed_ends Memory names before after works = tt
@@ -134,7 +135,7 @@ snapshot_ends (Replayed end) names before after works = works
 snapshot_ends (Stated state_end.Unreadable) names before after works = works
 snapshot_ends (Stated (state_end.Damaged line)) names before after works = refused_asks (state_end.Damaged line) names.specification names.state before after works
 snapshot_ends (Stated state_end.OtherSpecification) names before after works = refused_asks state_end.OtherSpecification names.specification names.state before after works
-snapshot_ends (Stated state_end.TooManySteps) names before after works = tt
+snapshot_ends (Stated state_end.TooManySteps) names before after works = works.1
 snapshot_ends CutFault names before after works = tt
 snapshot_ends Put names before after works = tt
 snapshot_ends Memory names before after works = tt
@@ -223,8 +224,8 @@ module _ (inputs : Inputs) (words : List (List ℕ)) (before after : Outside) (l
   means_cause parts status (Stated state_end.OtherSpecification) ends w (inl e) = at 9 status e.0 (inl ends, w.trace)
   means_cause parts status (Stated state_end.OtherSpecification) ends w (inr (inl e)) = at 9 status e.0 (inl ends, w.trace)
   means_cause parts status (Stated state_end.OtherSpecification) ends w (inr (inr e)) = at 8 status e.0 tt
-  means_cause parts status (Stated state_end.TooManySteps) ends w (inl e) = at 9 status e.0 (inr w.well, w.whole.trace)
-  means_cause parts status (Stated state_end.TooManySteps) ends w (inr (inl e)) = at 9 status e.0 (inr w.well, w.whole.trace)
+  means_cause parts status (Stated state_end.TooManySteps) ends w (inl e) = at 9 status e.0 (inr (w.well, ends), w.whole.trace)
+  means_cause parts status (Stated state_end.TooManySteps) ends w (inr (inl e)) = at 9 status e.0 (inr (w.well, ends), w.whole.trace)
   means_cause parts status (Stated state_end.TooManySteps) ends w (inr (inr e)) = at 8 status e.0 tt
   means_cause parts status CutFault ends w e = at 5 status e.0 w.1
   means_cause parts status Put ends w e = at 7 status e.0 (broke_before e.1 w)

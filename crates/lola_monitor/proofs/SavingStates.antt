@@ -1,6 +1,7 @@
 -- The state that a run has come to, and how many steps it has.
-use Rattle.std.proofs.Common.{◌≡◌, ◌↔◌, ◌∙◌, ℕ, ◌<◌, ◌≤◌, Bool, true, false, IsTrue, List, ap, nat_lt, refl, subst, arith}
+use Rattle.std.proofs.Common.{◌≡◌, ◌↔◌, ◌∙◌, ℕ, ◌<◌, ◌≤◌, ◌+◌, ◌^◌, Bool, true, false, IsTrue, List, ap, nat_lt, refl, subst, arith}
 use Rattle.std.proofs.lemmas.Bool.Decides.{nat_tests}
+use Rattle.lola_value.specs.Times.{latest}
 use Rattle.lola_model.specs.declared.journal.Entry.{Entry}
 use Rattle.lola_engine.specs.Behind.{StandsBehind}
 use Rattle.lola_engine.specs.Resuming.{HasReached, times_of}
@@ -12,8 +13,9 @@ use Rattle.lola_save.specs.declared.end.StateEnd.TheVariants as state_end
 use Rattle.lola_save_text.specs.JournalStates.{state_of}
 use Rattle.lola_save_text.specs.Fitting.{most_steps}
 use Rattle.lola_save_text.specs.Lines.{state_text}
-use Rattle.lola_monitor_run.specs.Running.{Keeping}
-use Rattle.lola_monitor.specs.SnapshotOutcomes.{SavesState, counted}
+use Rattle.lola_monitor_run.specs.Running.{IsGoing, Keeping}
+use Rattle.lola_monitor.specs.LongStates.{IsNearMost, counted}
+use Rattle.lola_monitor.specs.SnapshotOutcomes.{SavesState}
 use Rattle.lola_monitor.specs.declared.call_end.CallEnd.TheVariants.{Report, Stated}
 
 -- a number that is not more than the most
@@ -51,3 +53,22 @@ module _ (specification : List ℕ) (kept : Keeping) (e : EngineState) (s : Boun
   pub saves_none : most_steps < times.steps → SavesState (Stated state_end.TooManySteps) specification kept
   saves_none many =
       (subst (λ n. most_steps < n) is_counted many, λ before journal stands. subst (λ n. most_steps < n) (kept_reaches before journal stands.engine).steps many)
+
+-- ---- states with nearly as many steps as one can have
+
+-- a run has more steps than it began with by those of its own, each of which has a row or a moment
+few_counted : (kept : Keeping) → IsGoing kept → kept.state.behind + kept.state.steps ≤ kept.state.behind + (2 ^ 47 + latest)
+few_counted kept going =
+    let counted_by = going.sound.counted in let few = going.few_steps in let rows = going.few_rows in let merged = going.merged in omega (arith, counted_by, few, rows, merged)
+
+-- one that came to more than a state can have began with nearly as many
+pub near_most : (kept0 kept1 : Keeping) → IsGoing kept1 → kept1.state.behind ≡ kept0.state.behind → most_steps < counted kept1 → IsNearMost kept0.state.behind
+near_most kept0 kept1 going same many =
+    let few = few_counted kept1 going in
+    let more : most_steps < kept1.state.behind + kept1.state.steps = many in
+    let near : most_steps < kept1.state.behind + (2 ^ 47 + latest) = omega (arith, more, few) in
+    subst IsNearMost same near
+
+-- and one that began with none comes to no such number
+pub never_from_none : (steps : ℕ) → steps ≡ 0 → IsNearMost steps → ⊥
+never_from_none steps none near = let more : 4611686018427387904 < 4000140737488355328 = subst IsNearMost none near in absurd (omega (arith, more))

@@ -185,9 +185,9 @@ module _ (words : List (List ℕ)) (names : SnapshotNames) (before after : Outsi
   means_snapshot status (Stated state_end.OtherSpecification) works (inl e) = means_refused status (refuses state_end.OtherSpecification works (inl e.1)) e.0
   means_snapshot status (Stated state_end.OtherSpecification) works (inr (inl e)) = means_refused status (refuses state_end.OtherSpecification works (inr e.1)) e.0
   means_snapshot status (Stated state_end.OtherSpecification) works (inr (inr e)) = snapshot_means_at 8 status names here e.0 (nothing (early_by state_end.OtherSpecification names.state works) e.1)
-  means_snapshot status (Stated state_end.TooManySteps) works (inl e) = snapshot_means_at 9 status names here e.0 (inr (too_long works (inl e.1)))
-  means_snapshot status (Stated state_end.TooManySteps) works (inr (inl e)) = snapshot_means_at 9 status names here e.0 (inr (too_long works (inr e.1)))
-  means_snapshot status (Stated state_end.TooManySteps) works (inr (inr e)) = snapshot_means_at 8 status names here e.0 (nothing works.early e.1)
+  means_snapshot status (Stated state_end.TooManySteps) works (inl e) = snapshot_means_at 9 status names here e.0 (inr (too_long works.0 (inl e.1)))
+  means_snapshot status (Stated state_end.TooManySteps) works (inr (inl e)) = snapshot_means_at 9 status names here e.0 (inr (too_long works.0 (inr e.1)))
+  means_snapshot status (Stated state_end.TooManySteps) works (inr (inr e)) = snapshot_means_at 8 status names here e.0 (nothing works.0.early e.1)
   means_snapshot status CutFault works e = snapshot_means_at 5 status names here e.0 (no_past works IsFaultSnapshot)
   means_snapshot status Put works e = snapshot_means_at 7 status names here e.0 (no_past works IsBrokenSnapshot)
   means_snapshot status Memory works e = snapshot_means_at 8 status names here e.0 (nothing works e.1)

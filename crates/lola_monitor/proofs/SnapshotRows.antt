@@ -1,5 +1,6 @@
 -- The rows of a snapshot's sources, which were lent and came back.
 use Rattle.std.proofs.Common.{◌≡◌, ℕ, List, [], ◌∷◌, ◌++◌, Option, None, Some, Result, Ok, Err, map, take, refl, sym, ap, ◌∙◌, ◌<◌, ◌≤◌, inl, inr, subst, length, true, append-nil, arith}
+use Rattle.std.specs.Prelude.{OnOk}
 use Rattle.std.proofs.lemmas.List.{length-map}
 use Rattle.std.proofs.lemmas.List.Elements.{All-nil}
 use Rattle.lola_port.specs.Asks.{failed_ask, given_ask}
@@ -20,7 +21,7 @@ use Rattle.lola_save_text.specs.Fitting.{most_steps}
 use Rattle.lola_save_text.specs.Lines.{state_text}
 use Rattle.lola_monitor_run.specs.Behind.{CameBehind, IsBehind, RanToEndBehind, RanToFailedPutBehind, RunsBehind}
 use Rattle.lola_monitor_run.specs.Feeds.{AreFed, HaveBegun, Supply, World, supply_of, world}
-use Rattle.lola_monitor_run.specs.Running.{IsSetAs, Keeping, setting_in}
+use Rattle.lola_monitor_run.specs.Running.{IsGoing, IsSetAs, Keeping, setting_in}
 use Rattle.lola_monitor_run.specs.Verdicts.{Setting, most_rows, settled_fault_in}
 use Rattle.lola_monitor_run.specs.declared.stop.Stop.{Stop}
 use Rattle.lola_monitor_run.specs.declared.stop.Stop.TheVariants as stop
@@ -35,6 +36,7 @@ use Rattle.lola_monitor.proofs.Calls.{between, grew_all}
 use Rattle.lola_monitor.proofs.FailedAsks.{ask_not_given, first_not_given, front_asked, given_at, names_counted}
 use Rattle.lola_monitor.proofs.Lent.{AreFresh, all_end, all_home, all_read, all_whole, as_many, came_home, first_is_failed, grew_lent, grew_unfetched, lent_fresh, run_is}
 use Rattle.lola_monitor.proofs.Listed.{get_beside}
+use Rattle.lola_monitor.proofs.SavingStates.{near_most}
 use Rattle.lola_monitor.proofs.Working.{no_turns}
 
 -- a count that stands has not risen
@@ -194,17 +196,19 @@ module _ (specification : List ℕ) (kept : Keeping) (names : List (List ℕ)) (
   unfetched_rows (fetch.Failed at) rooms workers broke = record {
     asked = grew_unfetched (fetch.Failed at) names rooms before after workers broke;
     is_end = tt;
+    long = tt;
     behind = λ front stands. not_given_rows at front broke stands;
   }
   unfetched_rows fetch.Memory rooms workers stopped = record {
     asked = grew_unfetched fetch.Memory names rooms before after workers stopped;
     is_end = tt;
+    long = tt;
     behind = λ front stands. tt;
   }
 
 -- ---- what a snapshot ends with after its rows
 
-module _ (specification : List ℕ) (kept0 kept1 : Keeping) (names : List (List ℕ)) (before after : ShelfState) (same : IsSetAs kept0 kept1) where
+module _ (specification : List ℕ) (kept0 kept1 : Keeping) (names : List (List ℕ)) (before after : ShelfState) (same : IsSetAs kept0 kept1) (steps_before : kept1.state.behind ≡ kept0.state.behind) where
   saved_rows : (text : List ℕ) (front : List Entry) → StandingRows front (setting_in kept0) kept1 names before after → SavesState (Report text) specification kept1 → SavedRows text specification front (setting_in kept0) names before after
   saved_rows text front w saves =
       let journal : List Entry = front ++ w.whole.ended.taken.run.journal in
@@ -220,31 +224,31 @@ module _ (specification : List ℕ) (kept0 kept1 : Keeping) (names : List (List 
       let journal : List Entry = front ++ w.whole.ended.taken.run.journal in
       record { whole = w.whole; many = subst (λ (t : Setting). most_steps < steps_of t journal) same (many.1 front journal w.stands) }
 
-  whole_rows : (done : Unit {0}) (outcome : CallEnd) → TookRows (Ok done) sources_end.Whole kept0 kept1 names before after → SavesState outcome specification kept1 → RunsRows outcome specification kept0 names before after
-  whole_rows done (Line line) took saves = absurd saves
-  whole_rows done (Drilled line) took saves = absurd saves
-  whole_rows done (Report text) took saves = record { asked = took.asked; is_end = tt; behind = λ front stands. saved_rows text front (took.behind front stands) saves }
-  whole_rows done (Replayed end) took saves = absurd saves
-  whole_rows done (Stated state_end.Unreadable) took saves = absurd saves
-  whole_rows done (Stated (state_end.Damaged line)) took saves = absurd saves
-  whole_rows done (Stated state_end.OtherSpecification) took saves = absurd saves
-  whole_rows done (Stated state_end.TooManySteps) took saves = record { asked = took.asked; is_end = tt; behind = λ front stands. long_rows front (took.behind front stands) saves }
-  whole_rows done CutFault took saves = absurd saves
-  whole_rows done Put took saves = absurd saves
-  whole_rows done Memory took saves = record { asked = took.asked; is_end = tt; behind = λ front stands. tt }
+  whole_rows : (done : Unit {0}) (outcome : CallEnd) → IsGoing kept1 → TookRows (Ok done) sources_end.Whole kept0 kept1 names before after → SavesState outcome specification kept1 → RunsRows outcome specification kept0 names before after
+  whole_rows done (Line line) going took saves = absurd saves
+  whole_rows done (Drilled line) going took saves = absurd saves
+  whole_rows done (Report text) going took saves = record { asked = took.asked; is_end = tt; long = tt; behind = λ front stands. saved_rows text front (took.behind front stands) saves }
+  whole_rows done (Replayed end) going took saves = absurd saves
+  whole_rows done (Stated state_end.Unreadable) going took saves = absurd saves
+  whole_rows done (Stated (state_end.Damaged line)) going took saves = absurd saves
+  whole_rows done (Stated state_end.OtherSpecification) going took saves = absurd saves
+  whole_rows done (Stated state_end.TooManySteps) going took saves = record { asked = took.asked; is_end = tt; long = near_most kept0 kept1 going steps_before saves.0; behind = λ front stands. long_rows front (took.behind front stands) saves }
+  whole_rows done CutFault going took saves = absurd saves
+  whole_rows done Put going took saves = absurd saves
+  whole_rows done Memory going took saves = record { asked = took.asked; is_end = tt; long = tt; behind = λ front stands. tt }
 
-  pub ends_rows : (how : Result (Unit {0}) Stop) (end : SourcesEnd) (outcome : CallEnd) → TookRows how end kept0 kept1 names before after → EndsAfter how end specification kept1 outcome → RunsRows outcome specification kept0 names before after
-  ends_rows (Ok done) sources_end.Whole outcome took saves = whole_rows done outcome took saves
-  ends_rows (Ok done) (sources_end.ReadFailed at) outcome took is =
-      subst (λ o. RunsRows o specification kept0 names before after) (sym is) (record { asked = took.asked; is_end = tt; behind = took.behind })
-  ends_rows (Ok done) (sources_end.Malformed source row kind) outcome took is =
-      subst (λ o. RunsRows o specification kept0 names before after) (sym is) (record { asked = took.asked; is_end = tt; behind = took.behind })
-  ends_rows (Err (stop.Fault stream kind time)) end outcome took (inl is) =
+  pub ends_rows : (how : Result (Unit {0}) Stop) (end : SourcesEnd) (outcome : CallEnd) → OnOk how (IsGoing kept1) → TookRows how end kept0 kept1 names before after → EndsAfter how end specification kept1 outcome → RunsRows outcome specification kept0 names before after
+  ends_rows (Ok done) sources_end.Whole outcome going took saves = whole_rows done outcome going took saves
+  ends_rows (Ok done) (sources_end.ReadFailed at) outcome going took is =
+      subst (λ o. RunsRows o specification kept0 names before after) (sym is) (record { asked = took.asked; is_end = tt; long = tt; behind = took.behind })
+  ends_rows (Ok done) (sources_end.Malformed source row kind) outcome going took is =
+      subst (λ o. RunsRows o specification kept0 names before after) (sym is) (record { asked = took.asked; is_end = tt; long = tt; behind = took.behind })
+  ends_rows (Err (stop.Fault stream kind time)) end outcome going took (inl is) =
       let fault : RunFault = record { stream = stream; kind = kind; time = time } in
-      subst (λ o. RunsRows o specification kept0 names before after) (sym (is ∙ ap (λ (t : Setting). Line (fault_line t.plan fault)) same)) (record { asked = took.asked; is_end = tt; behind = took.behind })
-  ends_rows (Err (stop.Fault stream kind time)) end outcome took (inr is) =
-      subst (λ o. RunsRows o specification kept0 names before after) (sym is) (record { asked = took.asked; is_end = tt; behind = λ front stands. tt })
-  ends_rows (Err (stop.CutFault stream kind time)) end outcome took is =
-      subst (λ o. RunsRows o specification kept0 names before after) (sym is) (record { asked = took.asked; is_end = tt; behind = took.behind })
-  ends_rows (Err stop.Put) end outcome took is = subst (λ o. RunsRows o specification kept0 names before after) (sym is) (record { asked = took.asked; is_end = tt; behind = took.behind })
-  ends_rows (Err stop.Memory) end outcome took is = subst (λ o. RunsRows o specification kept0 names before after) (sym is) (record { asked = took.asked; is_end = tt; behind = took.behind })
+      subst (λ o. RunsRows o specification kept0 names before after) (sym (is ∙ ap (λ (t : Setting). Line (fault_line t.plan fault)) same)) (record { asked = took.asked; is_end = tt; long = tt; behind = took.behind })
+  ends_rows (Err (stop.Fault stream kind time)) end outcome going took (inr is) =
+      subst (λ o. RunsRows o specification kept0 names before after) (sym is) (record { asked = took.asked; is_end = tt; long = tt; behind = λ front stands. tt })
+  ends_rows (Err (stop.CutFault stream kind time)) end outcome going took is =
+      subst (λ o. RunsRows o specification kept0 names before after) (sym is) (record { asked = took.asked; is_end = tt; long = tt; behind = took.behind })
+  ends_rows (Err stop.Put) end outcome going took is = subst (λ o. RunsRows o specification kept0 names before after) (sym is) (record { asked = took.asked; is_end = tt; long = tt; behind = took.behind })
+  ends_rows (Err stop.Memory) end outcome going took is = subst (λ o. RunsRows o specification kept0 names before after) (sym is) (record { asked = took.asked; is_end = tt; long = tt; behind = took.behind })

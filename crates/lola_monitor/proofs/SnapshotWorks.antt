@@ -1,11 +1,12 @@
 -- A snapshot, by what its texts and its rows came to.
-use Rattle.std.proofs.Common.{◌≡◌, ℕ, ◌+◌, ◌⊎◌, List, [], ◌∷◌, ◌++◌, Option, None, Some, Err, map, inl, inr, refl, sym, ap, ◌∙◌, subst, append_assoc, true}
+use Rattle.std.proofs.Common.{◌≡◌, ℕ, ◌+◌, ◌⊎◌, List, [], ◌∷◌, ◌++◌, Option, None, Some, Err, map, inl, inr, refl, sym, ap, ◌∙◌, subst, append_assoc, length, true}
 use Rattle.std.specs.Option.{option_map, option_to_list}
 use Rattle.lola_port.specs.Asks.{given_ask}
 use Rattle.lola_port.specs.States.{Rose, ShelfState, SinkState}
 use Rattle.lola_port.specs.declared.traits.Ask.{Ask}
 use Rattle.lola_model.specs.Acceptance.{IsAccepted}
 use Rattle.lola_model.specs.Journal.{accepted, known_start, rows_of}
+use Rattle.lola_model.specs.Runs.{settled_model}
 use Rattle.lola_model.specs.declared.journal.Entry.{Entry}
 use Rattle.lola_model.specs.declared.journal.Show.{Show}
 use Rattle.lola_model.specs.declared.journal.Show.TheVariants as show
@@ -22,6 +23,7 @@ use Rattle.lola_monitor_run.specs.Running.{Keeping, setting_in}
 use Rattle.lola_monitor_run.specs.Verdicts.{Setting}
 use Rattle.lola_monitor.specs.Causes.{AllHome}
 use Rattle.lola_monitor.specs.Command.{SnapshotNames}
+use Rattle.lola_monitor.specs.LongStates.{IsLongState, IsNearMost}
 use Rattle.lola_monitor.specs.Monitor.{AllBegin, AllRead, Begins, Ends, GoInTurns, HasItsModels, HasRows, Plans, WereGiven, asks_between, first_failed_ask, outside}
 use Rattle.lola_monitor.specs.Outcomes.{CameHome, PlansName, SourcesRun, noted, without_plan}
 use Rattle.lola_monitor.specs.Pasts.{AllGivenIn, RanBehind, texts_of}
@@ -37,6 +39,7 @@ use Rattle.lola_monitor.specs.declared.call_end.Unloaded.TheVariants as unloaded
 use Rattle.lola_monitor.specs.declared.call_end.Unplanned.{Unplanned}
 use Rattle.lola_monitor.specs.declared.call_end.Unplanned.TheVariants as unplanned
 use Rattle.lola_monitor.proofs.Calls.{asked_both, between}
+use Rattle.lola_monitor.proofs.SavingStates.{never_from_none}
 use Rattle.lola_monitor.proofs.TextsRefused.{first_unread, front_saved, plan_refused, second_unread, state_refused, text_told}
 
 -- no ask has failed behind those that were given
@@ -180,7 +183,7 @@ module _ (names : SnapshotNames) (plan : Plan) (before mid after : ShelfState) w
 
     module _ (specification : List ℕ) (kept : Keeping) (is_text : IsText (before.told names.specification) specification) (has_state : HasState names.state specification plan before)
         (past : (start : Option ℕ) (front : List Entry) → IsPast names before names.state start front → IsBehind front front kept × (setting_in kept ≡ steps_setting plan start front))
-        (out trace : SinkState) where
+        (is_long : IsNearMost kept.state.behind → IsLongState names.state before) (out trace : SinkState) where
       abbrev stood : (P : Option ℕ → List Entry → ShelfState → ShelfState → Type 0) → ((start : Option ℕ) (front : List Entry) → IsPast names before names.state start front → P start front before after)
           → StoodSnapshot P names (outside before out trace) (outside after out trace)
       stood P behind = record {
@@ -209,7 +212,7 @@ module _ (names : SnapshotNames) (plan : Plan) (before mid after : ShelfState) w
       works_rows (Stated state_end.Unreadable) r = absurd r.is_end
       works_rows (Stated (state_end.Damaged line)) r = absurd r.is_end
       works_rows (Stated state_end.OtherSpecification) r = absurd r.is_end
-      works_rows (Stated state_end.TooManySteps) r = stood (AreTooLong names) (λ start front is. too_long start front (rows_end (Stated state_end.TooManySteps) r start front is))
+      works_rows (Stated state_end.TooManySteps) r = (stood (AreTooLong names) (λ start front is. too_long start front (rows_end (Stated state_end.TooManySteps) r start front is)), is_long r.long)
       works_rows CutFault r = stood NoPast (λ start front is. rows_end CutFault r start front is)
       works_rows Put r = stood NoPast (λ start front is. rows_end Put r start front is)
       works_rows Memory r = record { trace = refl; out = refl }
@@ -219,6 +222,14 @@ module _ (names : SnapshotNames) (plan : Plan) (before mid after : ShelfState) w
 known_alone : (start : Option ℕ) → known_start start [] ≡ start
 known_alone None = refl
 known_alone (Some t) = refl
+
+-- a run that stands for nothing has no steps behind it
+none_settled : (plan : Plan) (start : Option ℕ) → settled_model plan start [] ≡ []
+unfolding settled_model
+none_settled plan start = refl
+
+none_behind : (kept : Keeping) → IsBehind [] [] kept → kept.state.behind ≡ 0
+none_behind kept stands = stands.engine.behind ∙ ap length (none_settled kept.state.plan kept.state.given_start)
 
 -- nothing
 pub past_anew : (names : SnapshotNames) (shelf : ShelfState) (plan : Plan) (kept : Keeping) → names.state ≡ None → IsBehind [] [] kept → setting_in kept ≡ record { plan = plan; start = names.start; show = show.Triggers }
@@ -246,6 +257,19 @@ module _ (names : SnapshotNames) (specification state : List ℕ) (plan : Plan) 
     state_read =
         subst (λ (o : Option (List ℕ)). HasState o specification plan before) (sym is_state)
         (λ bytes told. subst (λ (b : List ℕ). IsStateText specification plan b) (text_told names.specification state specification plan before mid is_plan is_text read_first r.bytes bytes r.is_text told) r.is_state)
+
+    -- a run that began with so many steps had them from it
+    pub long_read : IsNearMost kept.state.behind → IsLongState names.state before
+    long_read near = record {
+      name = state;
+      is_named = is_state;
+      specification = specification;
+      plan = plan;
+      bytes = r.bytes;
+      is_text = subst (λ (f : List ℕ → Option (List ℕ)). IsText (f state) r.bytes) (ap (λ (s : ShelfState). s.told) read_first) r.is_text;
+      is_state = r.is_state;
+      near = subst IsNearMost r.steps_before near;
+    }
 
   -- no engine goes on from it
   pub works_unloaded : (end : Unloaded) (after : ShelfState) (out trace : SinkState) → names.state ≡ Some state → NoEngine end specification plan state mid after
@@ -283,7 +307,8 @@ pub over_anew : (specification : List ℕ) (plan : Plan) (names : SnapshotNames)
 over_anew specification plan names kept mid after outcome anew stands setting rows before out trace p is_text =
     works_rows names plan before mid after p.is_plan p.accepted p.one_model (told_by before mid names.specification p.shelf) (ap (λ (s : ShelfState). s.count) p.shelf)
     (ap (λ (s : ShelfState). s.asks) p.shelf ∙ ap (λ (o : Option (List ℕ)). before.asks ++ (given_ask names.specification ∷ map given_ask (option_to_list o))) (sym anew))
-    specification kept is_text (subst (λ (o : Option (List ℕ)). HasState o specification plan before) (sym anew) tt) (past_anew names before plan kept anew stands setting) out trace outcome rows
+    specification kept is_text (subst (λ (o : Option (List ℕ)). HasState o specification plan before) (sym anew) tt) (past_anew names before plan kept anew stands setting)
+    (λ near. absurd (never_from_none kept.state.behind (none_behind kept stands) near)) out trace outcome rows
 
 -- it goes on from a state
 pub over_read : (specification state : List ℕ) (plan : Plan) (names : SnapshotNames) (kept : Keeping) (merge : Option ℕ) (mid read after : ShelfState) (outcome : CallEnd) → names.state ≡ Some state
@@ -292,7 +317,8 @@ over_read specification state plan names kept merge mid read after outcome is_st
     works_rows names plan before read after p.is_plan p.accepted p.one_model (told_by mid read state r.shelf ∙ told_by before mid names.specification p.shelf) (ap (λ (s : ShelfState). s.count) r.shelf ∙ ap (λ (s : ShelfState). s.count) p.shelf)
     (asked_both names.specification state before mid read p.shelf r.shelf ∙ ap (λ (o : Option (List ℕ)). before.asks ++ (given_ask names.specification ∷ map given_ask (option_to_list o))) (sym is_state))
     specification kept is_text (state_read names specification state plan before mid is_text p.is_plan p.shelf read kept merge is_state r)
-    (past_read names specification state plan before mid is_text p.is_plan p.shelf read kept merge is_state r) out trace outcome rows
+    (past_read names specification state plan before mid is_text p.is_plan p.shelf read kept merge is_state r)
+    (long_read names specification state plan before mid is_text p.is_plan p.shelf read kept merge is_state r) out trace outcome rows
 
 -- no engine goes on from its state
 pub over_unloaded : (specification state : List ℕ) (plan : Plan) (names : SnapshotNames) (mid after : ShelfState) (end : Unloaded) → names.state ≡ Some state → NoEngine end specification plan state mid after

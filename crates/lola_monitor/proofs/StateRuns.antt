@@ -1,5 +1,5 @@
 -- A run over an engine that was made from a saved state.
-use Rattle.std.proofs.Common.{◌≡◌, ℕ, List, [], ◌∷◌, ◌++◌, Option, map, refl, sym, ap, ◌∙◌, subst, append_assoc}
+use Rattle.std.proofs.Common.{◌≡◌, ℕ, ◌+◌, List, [], ◌∷◌, ◌++◌, Option, map, refl, sym, ap, ◌∙◌, subst, append_assoc, arith}
 use Rattle.lola_port.specs.States.{ShelfState}
 use Rattle.lola_port.specs.declared.traits.Ask.{Ask}
 use Rattle.lola_model.specs.Journal.{opening_time}
@@ -8,6 +8,7 @@ use Rattle.lola_model.specs.declared.journal.Show.{Show}
 use Rattle.lola_model.specs.declared.plan.Plan.{Plan}
 use Rattle.lola_engine.specs.Resuming.{merge_start, times_of}
 use Rattle.lola_engine.specs.declared.engine.EngineState.{EngineState}
+use Rattle.lola_engine.specs.declared.times.RunTimes.{RunTimes}
 use Rattle.lola_instances.specs.declared.store.BoundedStore.{BoundedStore}
 use Rattle.lola_save.specs.declared.end.StateEnd.TheVariants as state_end
 use Rattle.lola_monitor_run.specs.Behind.{IsBehind}
@@ -28,11 +29,16 @@ module _ (specification : List ℕ) (plan : Plan) (show : Show) (name : List ℕ
   stands : (start : Option ℕ) (front : List Entry) → IsSavedAs specification plan read.bytes start front → IsBehind front front fresh_run
   stands start front saved = record { legal = (read.start start front saved).1; engine = read.loaded.stands start front saved.of saved.fine saved.text }
 
+  -- it counts its steps from those of the state
+  begun : e.behind ≡ read.loaded.state.steps
+  begun = let so_far : e.behind + e.steps ≡ read.loaded.state.steps = ap (λ (t : RunTimes). t.steps) read.loaded.on.times_are in let none = read.loaded.on.no_steps in omega (arith, so_far, none)
+
   first_read : (merge : Option ℕ) → merge ≡ merge_start (times_of e) → RunRead specification plan show name fresh_run merge before after
   first_read merge is = record {
     bytes = read.bytes;
     is_text = read.is_text;
     is_state = record { state = read.loaded.state; saved = read.loaded.saved; written = read.loaded.written };
+    steps_before = begun;
     none = record { going = read.loaded.on.engine; accepted = refl; late = refl; rows = read.loaded.on.few_rows };
     merged = ap opening_time (is ∙ ap merge_start read.loaded.on.times_are) ∙ sym read.loaded.on.merged;
     plan_is = read.loaded.on.plan_is;

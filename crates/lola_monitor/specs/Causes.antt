@@ -11,6 +11,7 @@ use Rattle.lola_report.specs.declared.end.EndLine.TheVariants.{Done, Usage, Refu
 use Rattle.lola_rows.specs.Rows.{SourceEnd}
 use Rattle.lola_save.specs.declared.end.StateEnd.TheVariants as state_end
 use Rattle.lola_monitor_run.specs.Running.{Received}
+use Rattle.lola_monitor.specs.LongStates.{IsLongState}
 use Rattle.lola_monitor.specs.Monitor.{Call, MalformedSource, Outside, Plans, Wrote, asks_between, first_failed_ask, first_malformed, source_rows}
 use Rattle.lola_monitor.specs.Pasts.{AllGivenIn, Inputs, IsUnreadNamed, malformed_line, texts_of}
 use Rattle.lola_monitor.specs.declared.call_end.CallEnd.{CallEnd}
@@ -179,9 +180,10 @@ pub record HasUnreadSource (inputs : Inputs) (c : Call) : Type 0 where
   pub text : List ℕ
   pub out : Wrote (grown c.before.out text) c.after.out (end_text (UnreadableSource at))
 
--- 9: the state was refused before any source was asked for, or all sources were given and end well, and there are too many steps for a state
+-- 9: the state was refused before any source was asked for, or all sources were given and end well, and there are too many steps for a state:
+-- it had nearly as many as one can have
 abbrev pub IsRefusedOrLong : Inputs → Call → Type 0
-IsRefusedOrLong inputs c = (asks_between c.before.shelf c.after.shelf ≡ map given_ask (texts_of inputs)) ⊎ AllReadWell inputs c.before.shelf c.after.shelf
+IsRefusedOrLong inputs c = (asks_between c.before.shelf c.after.shelf ≡ map given_ask (texts_of inputs)) ⊎ (AllReadWell inputs c.before.shelf c.after.shelf × IsLongState inputs.state c.before.shelf)
 
 -- the causes of a status, by what the call was given and by what failed; 3 has its own, and so have 5 and 9 where a journal has the state
 pub record HasCause (status : ℕ) (inputs : Inputs) (c : Call) : Type 0 where

@@ -8,6 +8,7 @@ pub mod Outcomes
 pub mod ReplayOutcomes
 pub mod Conclusions
 pub mod Pasts
+pub mod LongStates
 pub mod Causes
 pub mod Resumed
 pub mod Snapshots

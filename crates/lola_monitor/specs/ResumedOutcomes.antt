@@ -39,6 +39,7 @@ pub record RunRead (specification : List ℕ) (plan : Plan) (show : Show) (name 
   pub bytes : List ℕ
   pub is_text : IsText (before.told name) bytes
   pub is_state : IsStateText specification plan bytes
+  pub steps_before : kept.state.behind ≡ is_state.state.steps
   pub none : HasTakenNone kept
   pub merged : opening_time merge ≡ kept.state.merged
   pub plan_is : kept.state.plan ≡ plan

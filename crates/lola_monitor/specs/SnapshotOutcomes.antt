@@ -7,7 +7,6 @@ use Rattle.lola_model.specs.Journal.{accepted, known_start, rows_of}
 use Rattle.lola_model.specs.Runs.{settled_model}
 use Rattle.lola_model.specs.declared.journal.Entry.{Entry}
 use Rattle.lola_model.specs.declared.plan.Plan.{Plan}
-use Rattle.lola_engine.specs.Resuming.{times_of}
 use Rattle.lola_rows.specs.Rows.{SourceEnd, Whole}
 use Rattle.lola_report.specs.declared.end.EndLine.{EndLine}
 use Rattle.lola_report.specs.declared.end.EndLine.TheVariants.{Done, Usage, Refused, Malformed, Fault, UnreadableSpecification, UnreadableSource, Analysed}
@@ -24,6 +23,7 @@ use Rattle.lola_monitor_run.specs.declared.stop.Stop.{Stop}
 use Rattle.lola_monitor_run.specs.declared.stop.Stop.TheVariants as stop
 use Rattle.lola_monitor.specs.Causes.{AllHome, Causes, SourcesMalformed, SourcesUnread, SourcesWell}
 use Rattle.lola_monitor.specs.Command.{SnapshotNames}
+use Rattle.lola_monitor.specs.LongStates.{IsLongState, IsNearMost, counted}
 use Rattle.lola_monitor.specs.Monitor.{AllEnd, AllRead, AreGiven, Ends, MalformedSource, Outside, Plans, WereGiven, fault_line, first_failed_ask, first_malformed, outside}
 use Rattle.lola_monitor.specs.Outcomes.{AreUntouched, CameHome, Grew, OutcomeAfter, ReadPlan, SourcesRun}
 use Rattle.lola_monitor.specs.Pasts.{AreAllRows, AreRowsBeforeMalformed, AreRowsOfOthers, RanBehind, malformed_line}
@@ -43,10 +43,6 @@ nowhere = record { written = None; count = 0 }
 
 abbrev pub steps_of : Setting → List Entry → ℕ
 steps_of s journal = length (settled_model s.plan s.start journal)
-
--- how many steps a run has come to by its engine's own count, those behind the state that it goes on from included
-abbrev pub counted : Keeping → ℕ
-counted kept = (times_of kept.state).steps
 
 -- the state of whatever journal a run stands for was written, or it has too many steps; its own count says so too, journal or not
 abbrev pub SavesState : CallEnd → List ℕ → Keeping → Type 0
@@ -177,10 +173,16 @@ IsEndOfRows CutFault = Unit {0}
 IsEndOfRows Put = Unit {0}
 IsEndOfRows Memory = Unit {0}
 
+-- there are too many steps only where the run began with nearly as many as a state can have
+abbrev pub IsLongRun : CallEnd → Keeping → Type 0
+IsLongRun (Stated state_end.TooManySteps) kept = IsNearMost kept.state.behind
+IsLongRun outcome kept = Unit {0}
+
 -- the rows of sources, behind whatever journal the run stands for
 pub record RunsRows (outcome : CallEnd) (specification : List ℕ) (kept : Keeping) (names : List (List ℕ)) (before after : ShelfState) : Type 0 where
   pub asked : Grew names before after
   pub is_end : IsEndOfRows outcome
+  pub long : IsLongRun outcome kept
   pub behind : (front : List Entry) → IsBehind front front kept → RowsEnd outcome specification front (setting_in kept) names before after
 
 -- how rows that were taken have ended, behind a journal; no put of theirs fails
@@ -297,7 +299,7 @@ WorksSnapshot (Replayed end) names before after = ⊥
 WorksSnapshot (Stated state_end.Unreadable) names before after = StoodUnread 1 before after
 WorksSnapshot (Stated (state_end.Damaged line)) names before after = RefusesState (state_end.Damaged line) names.specification names.state before after
 WorksSnapshot (Stated state_end.OtherSpecification) names before after = RefusesState state_end.OtherSpecification names.specification names.state before after
-WorksSnapshot (Stated state_end.TooManySteps) names before after = StoodSnapshot (AreTooLong names) names before after
+WorksSnapshot (Stated state_end.TooManySteps) names before after = StoodSnapshot (AreTooLong names) names before after × IsLongState names.state before.shelf
 WorksSnapshot CutFault names before after = StoodSnapshot NoPast names before after
 WorksSnapshot Put names before after = StoodSnapshot NoPast names before after
 WorksSnapshot Memory names before after = AreUntouched before after

@@ -138,6 +138,7 @@ fn take_rows<R: Threads + Sync, S: Source, G: Gate + Sync>(
     ensures ends { RunEnds result.1 (world (keeping run.old) (map supply_of workers.items) nowhere nowhere) (world (keeping run.new) (map supply_of result.0.items) nowhere nowhere) }
     ensures places { AreInPlace workers.items result.0.items }
     ensures setting { IsSetAs (keeping run.old) (keeping run.new) }
+    ensures steps_before { (keeping run.new).state.behind ≡ (keeping run.old).state.behind }
     ensures going { OnOk result.1 (IsGoing (keeping run.new)) }
 {
     let mut out = Nowhere;
@@ -168,6 +169,7 @@ fn run_lent<R: Threads + Sync, F: Shelf, G: Gate + Sync>(
         → IsLent names rooms before (F.state shelf.old) workers.items → AreRooms (keeping run.old).state.plan (length names) most_rows rooms
         → RowsCause result.1 result.0 (keeping run.old).state.plan names before (F.state shelf.new) }
     ensures setting { IsSetAs (keeping run.old) (keeping run.new) }
+    ensures steps_before { (keeping run.new).state.behind ≡ (keeping run.old).state.behind }
     ensures going { OnOk result.1 (IsGoing (keeping run.new)) }
 {
     let (workers, stopped) = take_rows(rt, alloc, run, workers, start, gate);

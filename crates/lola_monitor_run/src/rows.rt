@@ -50,6 +50,7 @@ fn run_turn<R: Threads + Sync, S: Source, K: Sink, T: Sink, G: Gate + Sync>(
     ensures idle { OnOk result (IsIdle feed.new (keeping run.new)) }
     ensures places { AreInPlace feed.old.workers feed.new.workers }
     ensures setting { IsSetAs (keeping run.old) (keeping run.new) }
+    ensures steps_before { (keeping run.new).state.behind ≡ (keeping run.old).state.behind }
 {
     let turn = feed.turn(source);
     if is_out_of_memory(turn) {
@@ -90,6 +91,7 @@ fn run_round<R: Threads + Sync, S: Source, K: Sink, T: Sink, G: Gate + Sync>(
     ensures idle { OnOk result (IsIdle feed.new (keeping run.new)) }
     ensures places { AreInPlace feed.old.workers feed.new.workers }
     ensures setting { IsSetAs (keeping run.old) (keeping run.new) }
+    ensures steps_before { (keeping run.new).state.behind ≡ (keeping run.old).state.behind }
 {
     let mut moved = false;
     let count = feed.sources();
@@ -121,6 +123,7 @@ fn run_rows<R: Threads + Sync, S: Source, K: Sink, T: Sink, G: Gate + Sync>(
         (world (keeping run.new) (supplies_of feed.new) (K.state out.new) (T.state trace.new)) }
     ensures places { AreInPlace feed.old.workers feed.new.workers }
     ensures setting { IsSetAs (keeping run.old) (keeping run.new) }
+    ensures steps_before { (keeping run.new).state.behind ≡ (keeping run.old).state.behind }
     ensures going { OnOk result (IsGoing (keeping run.new)) }
 {
     loop {
@@ -235,6 +238,7 @@ pub fn rows_in_turns<R: Threads + Sync, S: Source, K: Sink, T: Sink, G: Gate + S
         (world (keeping run.new) (map supply_of result.0.items) (K.state out.new) (T.state trace.new)) }
     ensures places { AreInPlace workers.items result.0.items }
     ensures setting { IsSetAs (keeping run.old) (keeping run.new) }
+    ensures steps_before { (keeping run.new).state.behind ≡ (keeping run.old).state.behind }
     ensures going { OnOk result.1 (IsGoing (keeping run.new)) }
 {
     let sources = workers.len() as u32;

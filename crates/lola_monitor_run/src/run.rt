@@ -135,6 +135,7 @@ impl Run {
         requires room { HasRoom (keeping self.old) }
         ensures runs { RunsAccepted result row.now (keeping self.old) (keeping self.new) (K.state out.old) (K.state out.new) }
         ensures setting { IsSetAs (keeping self.old) (keeping self.new) }
+        ensures steps_before { (keeping self.new).state.behind ≡ (keeping self.old).state.behind }
     {
         self.lines.clear();
         if let Err(end) = self.engine.accept(rt, gate, row, &mut self.lines) {
@@ -160,6 +161,7 @@ impl Run {
         ensures writes { (trace : SinkState) → Writes result (K.state out.old) (K.state out.new) trace trace }
         ensures taken { OnOk result (HasTaken entry.now (keeping self.old) (keeping self.new)) }
         ensures setting { IsSetAs (keeping self.old) (keeping self.new) }
+        ensures steps_before { (keeping self.new).state.behind ≡ (keeping self.old).state.behind }
     {
         match entry.mark {
             Mark::Accepted => self.accept(rt, &entry.row, out, gate),
@@ -187,6 +189,7 @@ impl Run {
         ensures writes { Writes result (K.state out.old) (K.state out.new) (T.state trace.old) (T.state trace.new) }
         ensures taken { OnOk result (HasTaken entry.now (keeping self.old) (keeping self.new)) }
         ensures setting { IsSetAs (keeping self.old) (keeping self.new) }
+        ensures steps_before { (keeping self.new).state.behind ≡ (keeping self.old).state.behind }
     {
         if let Err(stop) = self.trace(entry, trace) {
             return Err(stop);

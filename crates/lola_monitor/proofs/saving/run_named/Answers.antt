@@ -16,7 +16,7 @@ use Rattle.lola_monitor.proofs.saving.run_named.Goals as goal
 
 -- no memory for the room
 pub returns-in_default-clause-runs : goal.returns-in_default-clause-runs
-returns-in_default-clause-runs g c = record { asked = grew_none (names_at (map (string_bytes {Z = Global}) c.args.words.now) c.args.names.now) (g.F.Shelf.state c.args.shelf.now); is_end = tt; behind = λ front stands. tt }
+returns-in_default-clause-runs g c = record { asked = grew_none (names_at (map (string_bytes {Z = Global}) c.args.words.now) c.args.names.now) (g.F.Shelf.state c.args.shelf.now); is_end = tt; long = tt; behind = λ front stands. tt }
 
 pub returns-in_default-clause-cause : goal.returns-in_default-clause-cause
 returns-in_default-clause-cause g c = tt

@@ -14,6 +14,7 @@ loop-source-init g c = record {
   idle = c.requires.idle;
   places = refl;
   setting = refl;
+  steps_before = refl;
   received = received_none (g.K.Sink.state c.args.out.now);
   traced = received_none (g.T.Sink.state c.args.trace.now);
 }
@@ -63,6 +64,7 @@ loop-source-preserved g c =
       idle = c.in-Ok.ensures.idle;
       places = c.run_turn.ensures.places ∙ i.places;
       setting = c.run_turn.ensures.setting ∙ i.setting;
+      steps_before = c.run_turn.ensures.steps_before ∙ i.steps_before;
       received = received_more (out c.args.out.now) (out c.loop-source.out) (out c.run_turn.new.out) i.received c.in-Ok.ensures.writes.0;
       traced = received_more (trace c.args.trace.now) (trace c.loop-source.trace) (trace c.run_turn.new.trace) i.traced c.in-Ok.ensures.writes.1;
     }

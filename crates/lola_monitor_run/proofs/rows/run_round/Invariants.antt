@@ -14,6 +14,7 @@ invariant-loop-source g l =
       idle : IsIdle l.feed (keeping l.run);
       places : AreInPlace l.fn.feed.workers l.feed.workers;
       setting : IsSetAs (keeping l.fn.run) (keeping l.run);
+      steps_before : (keeping l.run).state.behind ≡ (keeping l.fn.run).state.behind;
       received : Received (out l.fn.out) (out l.out);
       traced : Received (trace l.fn.trace) (trace l.trace);
     }

@@ -11,6 +11,7 @@ loop-stop-init g c = record {
   so_far = (0, started (world (keeping c.args.run.now) (supplies_of c.args.feed.now) (g.K.Sink.state c.args.out.now) (g.T.Sink.state c.args.trace.now)) (few_sources c.args.feed.now c.requires.fresh.many.1) c.requires.none (fresh_sources c.args.feed.now c.requires.fresh));
   idle = c.requires.idle;
   places = refl;
+  steps_before = refl;
   received = received_none (g.K.Sink.state c.args.out.now);
   traced = received_none (g.T.Sink.state c.args.trace.now);
 }
@@ -24,6 +25,7 @@ loop-stop-preserved g c =
       so_far = (suc so.0, round_goes _ _ _ c.in-Ok-true.ensures.goes _ so.0 so.1);
       idle = c.in-Ok-true.ensures.idle;
       places = c.run_round.ensures.places ∙ c.loop-stop.invariant.places;
+      steps_before = c.run_round.ensures.steps_before ∙ c.loop-stop.invariant.steps_before;
       received = received_more (out c.args.out.now) (out c.loop-stop.out) (out c.run_round.new.out) c.loop-stop.invariant.received c.in-Ok-true.ensures.writes.0;
       traced = received_more (trace c.args.trace.now) (trace c.loop-stop.trace) (trace c.run_round.new.trace) c.loop-stop.invariant.traced c.in-Ok-true.ensures.writes.1;
     }

@@ -1,4 +1,4 @@
-use Rattle.std.proofs.Common.{ℕ}
+use Rattle.std.proofs.Common.{◌≡◌, ℕ}
 use Rattle.lola_monitor_run.specs.Running.{Received, keeping}
 use Rattle.lola_monitor_run.specs.Feeds.{AreInPlace, IsIdle, supplies_of, world}
 use Rattle.lola_monitor_run.specs.Turning.{SoFar, left_of}
@@ -12,6 +12,7 @@ invariant-loop-stop g l =
       so_far : (round : ℕ) × SoFar (world (keeping l.fn.run) (supplies_of l.fn.feed) (out l.fn.out) (trace l.fn.trace)) round 0 (world (keeping l.run) (supplies_of l.feed) (out l.out) (trace l.trace));
       idle : IsIdle l.feed (keeping l.run);
       places : AreInPlace l.fn.feed.workers l.feed.workers;
+      steps_before : (keeping l.run).state.behind ≡ (keeping l.fn.run).state.behind;
       received : Received (out l.fn.out) (out l.out);
       traced : Received (trace l.fn.trace) (trace l.trace);
     }
