@@ -288,7 +288,7 @@ fn run_room<
 /// has to wait for a source that is silent. What ends the run ends it at once, also where sources are silent, but for a source whose thread waits
 /// in a read. The workers come back as their turns left them.
 /// The run is new or goes on: whatever journal others had taken, the rows come behind it, and the deadlines at its last stamp are still to
-/// be run, also where no row comes. `start` is the time that was merged: the stamp of the last accepted row, or else the start; a row before
+/// be run, also where no row comes. `start` is the merged time: the stamp of the last accepted row, or else the start; a row before
 /// it is late.
 pub fn resume_in_threads<
     P: IntakeSeat + Send,
