@@ -25,7 +25,7 @@ use Rattle.lola_monitor_run.specs.Behind as behind
 use Rattle.lola_monitor_run.specs.Behind.{CameBehind, EndedByCutFaultBehind, EndedByFaultBehind, EndsBehind, IsRowFaultBehind, RanOutOfMemoryBehind, RanToFailedPutBehind, ThroughBehind, ThroughCutBehind, ThroughWellBehind}
 use Rattle.lola_monitor_run.specs.Feeds.{AreFed, AreReady, BeganWith, EndedWith, GoInRounds, HasEnded, HaveBegun, HaveEnded, IsFed, Supply, World, supply_of, world}
 use Rattle.lola_feed.specs.Lending as shelves
-use Rattle.lola_feed.specs.Lending.{AreRooms, Fetches, HasReturned, IsLent, IsNotGiven, IsStopped, asks_of, counts_of, places_of}
+use Rattle.lola_feed.specs.Lending.{AreRooms, Fetches, HasReturned, IsLent, IsNotGiven, asks_of, counts_of, places_of}
 use Rattle.lola_feed.specs.declared.sources.FetchStop.{FetchStop}
 use Rattle.lola_feed.specs.declared.sources.FetchStop.TheVariants as fetch
 use Rattle.lola_monitor.specs.Causes.{AllHome}
