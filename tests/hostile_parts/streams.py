@@ -3,6 +3,7 @@ from __future__ import annotations
 
 import fcntl
 import os
+import resource
 import subprocess
 import threading
 import time
@@ -56,6 +57,25 @@ def test_full_devices(checks: Checks) -> None:
         expect(checks, "an analysis into a full output", run("analyse", "sum.lola", stdout=full), 7, "")
         for status, words in ENDS.items():
             expect(checks, f"{words} into a full output", run(*words, stdout=full), status, "")
+
+
+def test_files_that_may_not_grow(checks: Checks) -> None:
+    """An output or a trace that takes so many bytes and no more: they are a front. A fault that was met before the write that failed is the end."""
+    good = write_files()
+    faulty = ["run", "--show", "outputs", "--start", "0",
+              write("held.lola", "input a: Int64\noutput n: Int64 @1Hz := a.hold(or: 0)\noutput c: Int64 := a + 1")]
+    verdict, greatest = "1.000000000 n = 0\n", 2**63 - 1
+    at_once = [*faulty, write("at_once.csv", f"time,a\n2,{greatest}\n")]
+    behind = [*faulty, write("behind.csv", f"time,a\n1.5,1\n2,{greatest}\n")]
+    for stream, size, words, status, out, trace in (
+            ("stderr", 25, good, 7, "", TRACE[:25]), ("stdout", 5, good, 7, VERDICTS[:5], TRACE),
+            ("stdout", len(verdict), at_once, 5, verdict, f"0,1,2.000000000,A,{greatest}\n"),
+            ("stdout", 0, behind, 7, "", "0,1,1.500000000,A,1\n")):
+        with open("limited", "wb+") as file:
+            came = run(*words, **{stream: file}, restore_signals=False, preexec_fn=lambda size=size: resource.setrlimit(resource.RLIMIT_FSIZE, (size, size)))
+            file.seek(0)
+            came = came._replace(**{"out" if stream == "stdout" else "trace": file.read()})
+        expect(checks, f"{stream} of {size} bytes, {words}", came, status, out, trace)
 
 
 def closed_pipe() -> int:

@@ -45,7 +45,7 @@ pub(crate) fn reader(
 }
 
 /// The next row of a reader for a plan.
-pub(crate) fn next_row(plan: &Plan, reader: &mut RowReader<MemorySource>) -> Option<Row>
+fn next_row(plan: &Plan, reader: &mut RowReader<MemorySource>) -> Option<Row>
     requires shape { reader.old.shape ≡ shape_of plan.now.spec.streams 0 10000 }
     requires going { reader.old.ended ≡ None }
     ensures fits { MatchOption result (Unit {0}) (λ row. IsTraceable plan.now (accepted_entry row)) }

@@ -60,7 +60,7 @@ fn fill<R: Wait + Abort>(
 {
     for stamp in 1..=last {
         let pushed = push(rt, alloc, intake, seat, stamp);
-        assert!(rt; matches!(pushed, Push::Queued), "at {stamp}");
+        assert!(rt; matches!(pushed, Push::Queued));
     }
 }
 
@@ -104,11 +104,10 @@ fn are_rows(rt: &impl Abort, batch: &mut Batch, rows: (u32, u64, u64, Mark))
         match batch.pop_front() {
             Some(entry) => {
                 assert!(rt;
-                    entry.row.source == source && entry.row.stamp == stamp && entry.mark == mark,
-                    "at {stamp}"
+                    entry.row.source == source && entry.row.stamp == stamp && entry.mark == mark
                 );
             }
-            None => assert!(rt; false, "no row at {stamp}"),
+            None => assert!(rt; false),
         }
     }
     assert!(rt; batch.is_empty());
@@ -161,7 +160,7 @@ fn fill_and_take<R: Wait + Abort>(
     fill(rt, alloc, intake, first, 1024);
     match push(rt, alloc, intake, first, 1025) {
         Push::Full(row) => is_back(rt, &row, 0, 1025),
-        _ => assert!(rt; false, "the queue is full"),
+        _ => assert!(rt; false),
     }
     refuse(rt, intake, second, Finish::Full);
     take(
@@ -192,8 +191,8 @@ fn a_full_queue_refuses_and_rows_are_marked_at_their_pop(rt: HostRuntime) -> Res
     );
     let pushed = push(&rt, alloc, &intake, &mut second, 5);
     assert!(rt; matches!(pushed, Push::Queued));
-    assert_eq!(rt; intake.finish(&rt, &mut first), Finish::Finished);
-    assert_eq!(rt; intake.finish(&rt, &mut second), Finish::Finished);
+    assert!(rt; intake.finish(&rt, &mut first) == Finish::Finished);
+    assert!(rt; intake.finish(&rt, &mut second) == Finish::Finished);
     take(
         &rt,
         &intake,
@@ -218,7 +217,7 @@ fn a_closed_intake_refuses_and_what_was_queued_is_left(rt: HostRuntime) -> Resul
     intake.close(&mut taker);
     match push(&rt, alloc, &intake, &mut second, 3) {
         Push::Closed(row) => is_back(&rt, &row, 1, 3),
-        _ => assert!(rt; false, "the taker has closed"),
+        _ => assert!(rt; false),
     }
     refuse(&rt, &intake, &mut second, Finish::Closed);
     end(&rt, alloc, intake, taker, first, second, &mut left)?;

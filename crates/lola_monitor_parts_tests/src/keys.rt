@@ -20,7 +20,7 @@ impl RandomSource for NoBytes {
 fn keys_without_random_bytes(rt: HostRuntime) -> Result<(), Fail> {
     let keys = random_keys(&NoBytes)?;
     let fixed = fixed_keys()?;
-    assert_eq!(rt; keys.hash_one(7_u64), fixed.hash_one(7_u64));
+    assert!(rt; keys.hash_one(7_u64) == fixed.hash_one(7_u64));
     assert!(rt; random_keys(&rt)?.hash_one(7_u64) != fixed.hash_one(7_u64));
     Ok(())
 }

@@ -1,14 +1,10 @@
-//! Tests of parts of which nothing is claimed, or on which the program does not stand, and of what traces and verdicts are found to be.
+//! Tests of parts of which nothing is claimed, or on which the program does not stand.
 #![tactic(auto)]
 
-#[cfg(test)]
-mod findings;
 #[cfg(test)]
 mod journals;
 #[cfg(test)]
 mod keys;
-#[cfg(test)]
-mod lines;
 #[cfg(test)]
 mod pieces;
 #[cfg(test)]

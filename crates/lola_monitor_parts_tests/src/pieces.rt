@@ -2,8 +2,6 @@
 
 use lola_port::again::{put_all, read_some};
 use lola_port::line::Line;
-use lola_port::piece::Piece;
-use lola_value::text::Memory;
 use std::cell::Cell;
 use std::io;
 use std::io::{ErrorKind, Read, Write};
@@ -12,36 +10,18 @@ use std::time::{Clock, Duration};
 #[test]
 fn lines_that_are_not_empty_end(rt: HostRuntime) {
     let mut line = Line::Start;
-    assert_eq!(rt; line.goes_on(b"\xEF\xBB"), None);
-    assert_eq!(rt; line.goes_on(b"\xBF\r\n\n1,2"), None);
-    assert_eq!(rt; line.goes_on(b"\n3"), Some(1));
-    assert_eq!(rt; line.goes_on(b"\r\n4\n\n\r"), Some(4));
-    assert_eq!(rt; line.goes_on(b"\n\r"), None);
-    assert_eq!(rt; line.goes_on(b"\r\n"), Some(2));
-    let mut no_mark = Line::Start;
-    assert_eq!(rt; no_mark.goes_on(b"\xEF\xBB\n"), Some(3));
-}
-
-#[test]
-fn what_is_left_of_a_piece_may_end_no_line(rt: HostRuntime) -> Result<(), Memory> {
-    let mut piece = Piece::create(rt.alloc())?;
-    let mut bytes = b"1,2\n3\n\n4".as_slice();
-    let mut line = Line::Start;
-    assert_eq!(rt; piece.fill(&mut bytes).ok(), Some(8));
-    assert!(rt; piece.goes_on(8, &mut line));
-    let mut buf = [0u8; 3];
-    assert!(rt; piece.has_line());
-    for (moved, has_line) in [(3, true), (3, false), (2, false)] {
-        assert_eq!(rt; piece.move_to(&mut buf), moved);
-        assert_eq!(rt; piece.has_line(), has_line);
+    for (bytes, ended) in [
+        (b"\xEF\xBB".as_slice(), None),
+        (b"\xBF\r\n\n1,2".as_slice(), None),
+        (b"\n3".as_slice(), Some(1)),
+        (b"\r\n4\n\n\r".as_slice(), Some(4)),
+        (b"\n\r".as_slice(), None),
+        (b"\r\n".as_slice(), Some(2)),
+    ] {
+        assert!(rt; line.goes_on(bytes) == ended);
     }
-    assert!(rt; piece.is_used_up());
-    piece.clear();
-    assert!(rt; !piece.has_line());
-    assert_eq!(rt; piece.fill(&mut b"\n".as_slice()).ok(), Some(1));
-    assert!(rt; piece.goes_on(1, &mut line));
-    assert!(rt; piece.has_line());
-    Ok(())
+    let mut no_mark = Line::Start;
+    assert!(rt; no_mark.goes_on(b"\xEF\xBB\n") == Some(3));
 }
 
 /// A pipe of which each fourth call, from the one numbered 3 on, moves at most three bytes. The first of four is
@@ -115,13 +95,10 @@ fn writes_are_made_again(rt: HostRuntime) {
         bytes: Vec::new(rt.alloc()),
     };
     assert!(rt; put_all(&mut pipe, &clock, b"abcdefg"));
-    assert_eq!(rt; pipe.bytes.as_slice(), b"abcdefg".as_slice());
-    assert_eq!(rt; (pipe.calls, clock.pauses.get()), (12, 6));
+    assert!(rt; pipe.bytes.as_slice() == b"abcdefg".as_slice());
+    assert!(rt; pipe.calls == 12 && clock.pauses.get() == 6);
     assert!(rt; !put_all(&mut pipe, &clock, b"hij"));
-    assert_eq!(rt;
-        (pipe.bytes.len(), pipe.calls, clock.pauses.get()),
-        (7, 16, 8)
-    );
+    assert!(rt; pipe.bytes.len() == 7 && pipe.calls == 16 && clock.pauses.get() == 8);
 }
 
 /// A source whose first two reads are interrupted, and whose fourth fails.
@@ -149,8 +126,8 @@ impl Read for Interrupted {
 fn reads_are_made_again(rt: HostRuntime) {
     let mut source = Interrupted { reads: 0 };
     let mut buf = [0u8; 3];
-    assert_eq!(rt; read_some(&mut source, &mut buf).ok(), Some(3));
-    assert_eq!(rt; (source.reads, &buf), (3, b"xxx"));
+    assert!(rt; read_some(&mut source, &mut buf).ok() == Some(3));
+    assert!(rt; source.reads == 3 && buf.as_slice() == b"xxx".as_slice());
     assert!(rt; read_some(&mut source, &mut buf).is_err());
-    assert_eq!(rt; source.reads, 4);
+    assert!(rt; source.reads == 4);
 }

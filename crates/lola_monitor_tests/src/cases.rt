@@ -17,13 +17,11 @@ pub struct Source<'a> {
     pub failing_reads: &'a [u64],
 }
 
-/// A specification, at most three sources, which puts fail, and what a run of them leaves.
+/// A specification, at most two sources, and what a run of them leaves.
 #[derive(Clone, Copy)]
 pub struct Case<'a> {
     pub specification: &'a str,
     pub sources: &'a [Source<'a>],
-    pub failing_puts: &'a [u64],
-    pub failing_trace_puts: &'a [u64],
     pub status: u8,
     pub out: &'a str,
     pub trace: &'a str,
@@ -59,11 +57,11 @@ fn source_at<'a>(case: &Case<'a>, number: usize) -> Source<'a> {
     }
 }
 
-/// The words of a call, with this option behind the command's unless it is empty.
+/// The words of a call, with this option behind the command's.
 fn words(alloc: Global, texts: &[&str], option: &str) -> Result<Vec<String>, Memory> {
     let mut words = Vec::new(alloc);
     for (place, text) in texts.iter().enumerate() {
-        if place == 2 && !option.is_empty() {
+        if place == 2 {
             words.push(String::from_str(alloc, option)?)?;
         }
         words.push(String::from_str(alloc, text)?)?;
@@ -78,8 +76,7 @@ fn shelf_of(alloc: Global, case: &Case<'_>) -> Result<Option<MemoryShelf>, Memor
     let specification = readable(case.specification);
     let first = source_at(case, 0);
     let second = source_at(case, 1);
-    let third = source_at(case, 2);
-    if !fits(&specification) || !fits(&first) || !fits(&second) || !fits(&third) {
+    if !fits(&specification) || !fits(&first) || !fits(&second) {
         return Ok(None);
     }
     let mut shelf = MemoryShelf::create(alloc);
@@ -96,12 +93,6 @@ fn shelf_of(alloc: Global, case: &Case<'_>) -> Result<Option<MemoryShelf>, Memor
         second.piece,
         second.failing_reads,
     )?;
-    shelf.add(
-        "third",
-        third.bytes.as_bytes(),
-        third.piece,
-        third.failing_reads,
-    )?;
     Ok(Some(shelf))
 }
 
@@ -113,8 +104,7 @@ pub struct Left {
     pub trace: MemorySink,
 }
 
-/// Runs a command with this option over the objects of a case, or with none where it is empty; none where they have no form that a shelf
-/// takes.
+/// Runs a command with this option over the objects of a case; none where they have no form that a shelf takes.
 pub fn run<R: Threads + Wait + Sync, G: Gate + Sync>(
     rt: &R,
     alloc: Global,
@@ -126,8 +116,8 @@ pub fn run<R: Threads + Wait + Sync, G: Gate + Sync>(
     let Some(mut shelf) = shelf_of(alloc, case)? else {
         return Ok(None);
     };
-    let mut out = MemorySink::create(alloc, case.failing_puts)?;
-    let mut trace = MemorySink::create(alloc, case.failing_trace_puts)?;
+    let mut out = MemorySink::create(alloc, &[])?;
+    let mut trace = MemorySink::create(alloc, &[])?;
     let words = words(alloc, texts, option)?;
     let status = run_monitor(
         rt,
@@ -142,8 +132,8 @@ pub fn run<R: Threads + Wait + Sync, G: Gate + Sync>(
     Ok(Some(Left { status, out, trace }))
 }
 
-/// Whether a call with this option, or with none where it is empty, leaves what the case says.
-pub fn leaves_with<R: Threads + Wait + Sync>(
+/// Whether a call with this option leaves what the case says.
+fn leaves_with<R: Threads + Wait + Sync>(
     rt: &R,
     alloc: Global,
     texts: &[&str],
@@ -180,8 +170,6 @@ pub fn worked() -> Case<'static> {
     Case {
         specification: "input a: Int64\noutput b: Int64 := a + 1\ntrigger b > 2 \"high\"",
         sources: &[],
-        failing_puts: &[],
-        failing_trace_puts: &[],
         status: 0,
         out: "1.000000000 trigger_1 \"high\"\n= done accepted 2 late 0 steps 2 lines 1\n",
         trace: "0,1,0.000000000,A,1\n0,2,1.000000000,A,2\n",

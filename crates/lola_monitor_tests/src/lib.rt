@@ -1,5 +1,5 @@
-//! Tests of whole runs over objects in memory that fail at a call, of gates that hold threads or count, of states that are saved and
-//! gone on from, and of the board at which threads wait for each other.
+//! Tests of whole runs over sources in memory whose reads fail, of gates that hold threads or count, and of the board at which threads wait
+//! for each other.
 #![tactic(auto)]
 
 #[cfg(test)]
@@ -12,5 +12,3 @@ mod counting;
 mod failing;
 #[cfg(test)]
 mod meeting;
-#[cfg(test)]
-mod states;

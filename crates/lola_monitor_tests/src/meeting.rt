@@ -93,10 +93,7 @@ fn two_workers_meet(rt: HostRuntime) -> Result<(), Memory> {
 fn two_sources_meet(rt: HostRuntime) -> Result<(), Memory> {
     let texts = ["lolamon", "run", "spec", "first", "second"];
     for intake in INTAKES {
-        assert!(rt;
-            meet(&rt, rt.alloc(), &texts, intake, true, 1_000_000)?,
-            "{intake}"
-        );
+        assert!(rt; meet(&rt, rt.alloc(), &texts, intake, true, 1_000_000)?);
     }
     Ok(())
 }
