@@ -1,5 +1,5 @@
 -- The bytes that a read moves out of a source in memory.
-use Rattle.std.proofs.Common.{◌≡◌, ◌+◌, ◌-◌, ◌≤◌, List, ℕ, length, take, drop, ◌++◌, sym, ◌∙◌, ap, take-append-drop, arith}
+use Rattle.std.proofs.Common.{◌≡◌, ◌+◌, List, ℕ, length, take, drop, ◌++◌, sym, ◌∙◌, ap, take-append-drop}
 use Rattle.std.proofs.lemmas.List.{take_at, drop-drop}
 
 -- the bytes moved, and those behind them, are those that were left

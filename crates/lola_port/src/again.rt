@@ -1,8 +1,10 @@
 //! Reads and writes of the system that are made again where a signal came in between.
 
-ghost use Rattle.std.specs.Prelude.{◌≢◌, IfErr};
+ghost use Rattle.std.specs.Prelude.{◌≢◌, IfErr, IsTrue, IsFalse};
 ghost use Rattle.std.specs.Io.{ReadsAtMost, WritesAtMost};
+ghost use Rattle.std.specs.Io.KnownBytes.{Appends, ReadConsumes, WriteAppends};
 ghost use Rattle.std.specs.IoError.{error_kind};
+ghost use Rattle.lola_port.specs.Bytes.{AppendsPart};
 
 use std::io::{ErrorKind, Read, Write};
 use std::time::{Clock, Duration};
@@ -15,6 +17,7 @@ const PAUSE: u64 = 1_000_000;
 /// its path, without `O_NONBLOCK`, and `/dev/stdin` too is then a descriptor of its own, however its pipe was opened before.
 pub fn read_some<F: Read>(file: &mut F, buf: &mut [u8]) -> io::Result<usize>
     ensures within { ReadsAtMost result buf.new }
+    ensures bytes { ReadConsumes (F.remaining file.old) (F.remaining file.new) result buf.new }
     ensures again { IfErr result (λ error. error_kind error ≢ ErrorKind.Interrupted) }
 {
     for _ in 0..u64::MAX {
@@ -27,7 +30,10 @@ pub fn read_some<F: Read>(file: &mut F, buf: &mut [u8]) -> io::Result<usize>
 }
 
 /// Whether all bytes were taken. A write that takes nothing is a failure: what is written to has ended.
-pub fn put_all<W: Write, C: Clock>(writer: &mut W, clock: &C, bytes: &[u8]) -> bool {
+pub fn put_all<W: Write, C: Clock>(writer: &mut W, clock: &C, bytes: &[u8]) -> bool
+    ensures all { IsTrue result → Appends (W.contents writer.old) (W.contents writer.new) bytes.now }
+    ensures part { IsFalse result → AppendsPart (W.contents writer.old) (W.contents writer.new) bytes.now }
+{
     let mut rest = bytes;
     while !rest.is_empty() {
         match write_some(writer, clock, rest) {
@@ -42,6 +48,7 @@ pub fn put_all<W: Write, C: Clock>(writer: &mut W, clock: &C, bytes: &[u8]) -> b
 // descriptor does not block. At a pause each the tries last longer than any machine.
 fn write_some<W: Write, C: Clock>(writer: &mut W, clock: &C, bytes: &[u8]) -> io::Result<usize>
     ensures within { WritesAtMost result bytes.now }
+    ensures bytes { WriteAppends (W.contents writer.old) (W.contents writer.new) result bytes.now }
     ensures again { IfErr result (λ error. error_kind error ≢ ErrorKind.Interrupted) }
     ensures waits { IfErr result (λ error. error_kind error ≢ ErrorKind.WouldBlock) }
 {

@@ -1,6 +1,8 @@
 //! A piece of a source: a buffer of a fixed length, and which of its bytes are still to be moved.
 
-ghost use Rattle.std.specs.Prelude.{◌≡◌, ◌+◌, ◌<◌, ◌≤◌, drop, length, min, take, IfOk, IsFalse, IsTrue, OnErr};
+ghost use Rattle.std.specs.Prelude.{◌≡◌, ◌+◌, ◌<◌, ◌≤◌, ◌↔◌, [], drop, length, min, take, IfOk, IsFalse, IsTrue, OnErr};
+ghost use Rattle.std.specs.Io.KnownBytes.{Keeps};
+ghost use Rattle.lola_port.specs.Bytes.{IsFilled};
 
 use crate::again::read_some;
 use crate::line::Line;
@@ -14,7 +16,7 @@ use std::marker::Model;
 pub const ROOM: usize = 1 << 17;
 
 /// Bytes that were read of a source. Contracts see it as those that are still to be moved, which stand from `at` on and
-/// before `end`.
+/// before `end`, and the room behind them.
 #[derive(Drop)]
 pub struct Piece {
     room: Vec<u8>,
@@ -25,19 +27,20 @@ pub struct Piece {
 }
 
 impl Model for Piece {
-    ghost use Rattle.std.specs.Prelude.{ℕ, ◌-◌, ◌≤◌, List, drop, length, take};
+    ghost use Rattle.std.specs.Prelude.{◌≡◌, ◌-◌, ◌^◌, ◌≤◌, drop, length, take};
+    ghost use Rattle.lola_port.specs.Bytes.{PieceState};
 
-    ghost Value = { List ℕ };
+    ghost Value = { PieceState };
 
-    ghost view = { λ s. take (s.end - s.at) (drop s.at s.room.items) };
+    ghost view = { λ s. record { bytes = take (s.end - s.at) (drop s.at s.room.items); room = 2 ^ 17 - s.end } };
 
-    ghost invariant = { λ s. (s.at ≤ s.end) × (s.end ≤ length s.room.items) };
+    ghost invariant = { λ s. (s.at ≤ s.end) × (s.end ≤ 2 ^ 17) × (length s.room.items ≡ 2 ^ 17) };
 }
 
 impl Piece {
     /// A piece without bytes.
     pub fn create(alloc: Global) -> Result<Piece, Memory>
-        ensures { IfOk result (λ piece. length piece ≡ 0) }
+        ensures { IfOk result (λ piece. piece ≡ record { bytes = []; room = ROOM }) }
     {
         Ok(Piece {
             room: vec![in alloc; 0; ROOM]?,
@@ -49,15 +52,15 @@ impl Piece {
 
     /// Whether all of its bytes were moved.
     pub fn is_used_up(&self) -> bool
-        ensures yes { IsTrue result → length self.now ≡ 0 }
-        ensures no { IsFalse result → 0 < length self.now }
+        ensures yes { IsTrue result → length self.now.bytes ≡ 0 }
+        ensures no { IsFalse result → 0 < length self.now.bytes }
     {
         self.at == self.end
     }
 
     /// Forgets the bytes that it had.
     pub fn clear(&mut self)
-        ensures { length self.new ≡ 0 }
+        ensures { self.new ≡ record { bytes = []; room = ROOM } }
     {
         self.at = 0;
         self.end = 0;
@@ -70,14 +73,19 @@ impl Piece {
     }
 
     /// Whether there is room for more bytes behind those that it has.
-    pub fn has_room(&self) -> bool {
+    pub fn has_room(&self) -> bool
+        ensures { IsTrue result ↔ (0 < self.now.room) }
+    {
         self.end < self.room.len()
     }
 
     /// Reads the next bytes behind those that it has, and says how many came, which is none at the end, or where there is no room.
     pub fn fill<F: Read>(&mut self, file: &mut F) -> io::Result<usize>
-        ensures count { IfOk result (λ count. length self.new ≡ length self.old + count) }
-        ensures failed { OnErr result (length self.new ≡ length self.old) }
+        ensures count { IfOk result (λ count. length self.new.bytes ≡ length self.old.bytes + count) }
+        ensures filled { IfOk result (λ count.
+            IsFilled self.old self.new (F.remaining file.old) (F.remaining file.new) count) }
+        ensures failed { OnErr result (self.new ≡ self.old) }
+        ensures not_read { OnErr result (Keeps (F.remaining file.old) (F.remaining file.new)) }
     {
         let count = read_some(file, &mut self.room[self.end..])?;
         self.end += count;
@@ -86,7 +94,7 @@ impl Piece {
 
     /// Goes on with a line over so many bytes, which came last, and tells whether a line that is not empty ends among them.
     pub fn goes_on(&mut self, count: usize, line: &mut Line) -> bool
-        requires { count ≤ length self.old }
+        requires { count ≤ length self.old.bytes }
         ensures { self.new ≡ self.old }
     {
         let start = self.end - count;
@@ -99,9 +107,9 @@ impl Piece {
 
     /// Moves its next bytes into the front of `buf`, as many as there is room for, and says how many.
     pub fn move_to(&mut self, buf: &mut [u8]) -> usize
-        ensures count { result ≡ min (length buf.new) (length self.old) }
-        ensures moved { take result buf.new ≡ take result self.old }
-        ensures rest { self.new ≡ drop result self.old }
+        ensures count { result ≡ min (length buf.new) (length self.old.bytes) }
+        ensures moved { take result buf.new ≡ take result self.old.bytes }
+        ensures rest { self.new ≡ record self.old { bytes = drop result self.old.bytes } }
     {
         let count = buf.len().min(self.end - self.at);
         buf[..count].copy_from_slice(&self.room[self.at..self.at + count]);
