@@ -82,4 +82,4 @@ module _ (words : List (List ℕ)) (before after : Outside) (last : SinkState) (
   any_decided_snapshot (inl w) names is = let none = w.0.no_snapshot in absurd (cc)
   any_decided_snapshot (inr (inl r)) names is = absurd (not_both words (command_of words) r.names names r.is_command is)
   any_decided_snapshot (inr (inr s)) names is =
-      subst (λ (n : SnapshotNames). DecidedSnapshot status n here) (same_snapshot words s.names names s.is_command is) (decided_snapshot words s.names before after last status outcome s.works e)
+      subst (λ (n : SnapshotNames). DecidedSnapshot status n here) (same_snapshot words s.names names s.is_command is) (decided_snapshot words s.names before after last status outcome s.works s.cause e)

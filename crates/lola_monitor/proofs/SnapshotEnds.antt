@@ -9,13 +9,14 @@ use Rattle.lola_report.specs.declared.end.EndLine.TheVariants.{Done, Usage, Refu
 use Rattle.lola_save.specs.StateEnds.{state_end_text}
 use Rattle.lola_save.specs.declared.end.StateEnd.{StateEnd}
 use Rattle.lola_save.specs.declared.end.StateEnd.TheVariants as state_end
-use Rattle.lola_monitor.specs.Causes.{Causes}
+use Rattle.lola_monitor.specs.Causes.{Causes, StoodWell}
 use Rattle.lola_monitor.specs.Command.{SnapshotNames}
 use Rattle.lola_monitor.specs.Conclusions.{Concluded}
+use Rattle.lola_monitor.specs.LongStates.{IsLongState}
 use Rattle.lola_monitor.specs.Monitor.{Call, IsEarly, Outside, Plans, Wrote, call}
 use Rattle.lola_monitor.specs.Outcomes.{AreUntouched}
 use Rattle.lola_monitor.specs.SnapshotOutcomes.{AreTooLong, HasMalformed, HasRowFault, IsShort, NoPast, RefusesState, SavesRows, StoodSnapshot, WorksSnapshot}
-use Rattle.lola_monitor.specs.Snapshots.{EndedSnapshot, HasTooManySteps, IsBrokenSnapshot, IsCutShortSnapshot, IsFaultSnapshot, IsMalformedSnapshot, IsPast, IsSaved, IsStateRefusedIn, inputs_of}
+use Rattle.lola_monitor.specs.Snapshots.{EndedSnapshot, HasTooManySteps, IsBrokenSnapshot, IsCutShortSnapshot, IsFaultSnapshot, IsLongEnd, IsMalformedSnapshot, IsPast, IsSaved, IsStateRefusedIn, inputs_of}
 use Rattle.lola_monitor.specs.declared.call_end.CallEnd.{CallEnd}
 use Rattle.lola_monitor.specs.declared.call_end.CallEnd.TheVariants.{Line, Drilled, Report, Replayed, Stated, CutFault, Put, Memory}
 use Rattle.lola_monitor.proofs.CauseStatuses.{has_cause, snapshot_ends}
@@ -121,6 +122,9 @@ module _ (words : List (List ℕ)) (names : SnapshotNames) (before after : Outsi
         },
   )
 
+  long_end : StoodSnapshot (AreTooLong names) names before after → IsLongState names.state before.shelf → StoodWell (inputs_of names) before after → Wrote after.out last (state_end_text state_end.TooManySteps) → IsLongEnd names here
+  long_end s state cause wrote = record { all = cause.well; state = state; out = some s.early (state_end_text state_end.TooManySteps) wrote }
+
   refused_by : (end : StateEnd) (o : Option (List ℕ)) → RefusesState end names.specification o before after → Wrote after.out last (state_end_text end) → IsStateRefusedIn names o here
   refused_by end None r wrote = absurd r
   refused_by end (Some state) r wrote = refusals.state_refused words before after last end names.specification state wrote r
@@ -150,50 +154,50 @@ module _ (words : List (List ℕ)) (names : SnapshotNames) (before after : Outsi
   means_refused : (status : ℕ) → Refuses names here → status ≡ 9 → SnapshotMeans status names here
   means_refused status r is = snapshot_means_at 9 status names here is (inl r)
 
-  pub means_snapshot : (status : ℕ) (outcome : CallEnd) → WorksSnapshot outcome names before after → Concluded status outcome after.out last → SnapshotMeans status names here
-  means_snapshot status (Line (Done a l n v)) works e = absurd works
-  means_snapshot status (Line Usage) works e = absurd works
-  means_snapshot status (Line (Refused r)) works (inl e) =
+  pub means_snapshot : (status : ℕ) (outcome : CallEnd) → WorksSnapshot outcome names before after → Causes outcome (inputs_of names) before after → Concluded status outcome after.out last → SnapshotMeans status names here
+  means_snapshot status (Line (Done a l n v)) works cause e = absurd works
+  means_snapshot status (Line Usage) works cause e = absurd works
+  means_snapshot status (Line (Refused r)) works cause (inl e) =
       snapshot_means_at 3 status names here e.0 (refusals.refused words before after last r names.specification (inl e.1) works)
-  means_snapshot status (Line (Refused r)) works (inr (inl e)) =
+  means_snapshot status (Line (Refused r)) works cause (inr (inl e)) =
       snapshot_means_at 3 status names here e.0 (refusals.refused words before after last r names.specification (inr e.1) works)
-  means_snapshot status (Line (Refused r)) works (inr (inr e)) = snapshot_means_at 8 status names here e.0 (nothing works.early e.1)
-  means_snapshot status (Line (Malformed n row kind)) works (inl e) = snapshot_means_at 4 status names here e.0 (malformed (Malformed n row kind) works e.1)
-  means_snapshot status (Line (Malformed n row kind)) works (inr (inl e)) = snapshot_means_at 7 status names here e.0 (cut_malformed (Malformed n row kind) works e.1)
-  means_snapshot status (Line (Malformed n row kind)) works (inr (inr e)) = snapshot_means_at 8 status names here e.0 (nothing works.early e.1)
-  means_snapshot status (Line (Fault name kind time)) works (inl e) = snapshot_means_at 5 status names here e.0 (fault (Fault name kind time) works (inl e.1))
-  means_snapshot status (Line (Fault name kind time)) works (inr (inl e)) = snapshot_means_at 5 status names here e.0 (fault (Fault name kind time) works (inr e.1))
-  means_snapshot status (Line (Fault name kind time)) works (inr (inr e)) = snapshot_means_at 8 status names here e.0 (nothing works.early e.1)
-  means_snapshot status (Line UnreadableSpecification) works (inl e) = snapshot_means_at 6 status names here e.0 (inl (inl (refusals.unread words before after last 0 (end_text UnreadableSpecification) (inl e.1) works)))
-  means_snapshot status (Line UnreadableSpecification) works (inr (inl e)) = snapshot_means_at 6 status names here e.0 (inl (inl (refusals.unread words before after last 0 (end_text UnreadableSpecification) (inr e.1) works)))
-  means_snapshot status (Line UnreadableSpecification) works (inr (inr e)) = snapshot_means_at 8 status names here e.0 (nothing works.early e.1)
-  means_snapshot status (Line (UnreadableSource n)) works (inl e) = snapshot_means_at 6 status names here e.0 (inr (short (UnreadableSource n) works (inl e.1)))
-  means_snapshot status (Line (UnreadableSource n)) works (inr (inl e)) = snapshot_means_at 6 status names here e.0 (inr (short (UnreadableSource n) works (inr e.1)))
-  means_snapshot status (Line (UnreadableSource n)) works (inr (inr e)) = snapshot_means_at 8 status names here e.0 (nothing works.early e.1)
-  means_snapshot status (Line (Analysed n w)) works e = absurd works
-  means_snapshot status (Drilled line) works e = absurd works
-  means_snapshot status (Report text) works (inl e) = snapshot_means_at 0 status names here e.0 (saved text works e.1)
-  means_snapshot status (Report text) works (inr (inl e)) = snapshot_means_at 7 status names here e.0 (cut_state text works e.1)
-  means_snapshot status (Report text) works (inr (inr e)) = snapshot_means_at 8 status names here e.0 (nothing works.early e.1)
-  means_snapshot status (Replayed end) works e = absurd works
-  means_snapshot status (Stated state_end.Unreadable) works (inl e) = snapshot_means_at 6 status names here e.0 (inl (inr (refusals.unread words before after last 1 (state_end_text state_end.Unreadable) (inl e.1) works)))
-  means_snapshot status (Stated state_end.Unreadable) works (inr (inl e)) = snapshot_means_at 6 status names here e.0 (inl (inr (refusals.unread words before after last 1 (state_end_text state_end.Unreadable) (inr e.1) works)))
-  means_snapshot status (Stated state_end.Unreadable) works (inr (inr e)) = snapshot_means_at 8 status names here e.0 (nothing works.early e.1)
-  means_snapshot status (Stated (state_end.Damaged line)) works (inl e) = means_refused status (refuses (state_end.Damaged line) works (inl e.1)) e.0
-  means_snapshot status (Stated (state_end.Damaged line)) works (inr (inl e)) = means_refused status (refuses (state_end.Damaged line) works (inr e.1)) e.0
-  means_snapshot status (Stated (state_end.Damaged line)) works (inr (inr e)) = snapshot_means_at 8 status names here e.0 (nothing (early_by (state_end.Damaged line) names.state works) e.1)
-  means_snapshot status (Stated state_end.OtherSpecification) works (inl e) = means_refused status (refuses state_end.OtherSpecification works (inl e.1)) e.0
-  means_snapshot status (Stated state_end.OtherSpecification) works (inr (inl e)) = means_refused status (refuses state_end.OtherSpecification works (inr e.1)) e.0
-  means_snapshot status (Stated state_end.OtherSpecification) works (inr (inr e)) = snapshot_means_at 8 status names here e.0 (nothing (early_by state_end.OtherSpecification names.state works) e.1)
-  means_snapshot status (Stated state_end.TooManySteps) works (inl e) = snapshot_means_at 9 status names here e.0 (inr (too_long works.0 (inl e.1)))
-  means_snapshot status (Stated state_end.TooManySteps) works (inr (inl e)) = snapshot_means_at 9 status names here e.0 (inr (too_long works.0 (inr e.1)))
-  means_snapshot status (Stated state_end.TooManySteps) works (inr (inr e)) = snapshot_means_at 8 status names here e.0 (nothing works.0.early e.1)
-  means_snapshot status CutFault works e = snapshot_means_at 5 status names here e.0 (no_past works IsFaultSnapshot)
-  means_snapshot status Put works e = snapshot_means_at 7 status names here e.0 (no_past works IsBrokenSnapshot)
-  means_snapshot status Memory works e = snapshot_means_at 8 status names here e.0 (nothing works e.1)
+  means_snapshot status (Line (Refused r)) works cause (inr (inr e)) = snapshot_means_at 8 status names here e.0 (nothing works.early e.1)
+  means_snapshot status (Line (Malformed n row kind)) works cause (inl e) = snapshot_means_at 4 status names here e.0 (malformed (Malformed n row kind) works e.1)
+  means_snapshot status (Line (Malformed n row kind)) works cause (inr (inl e)) = snapshot_means_at 7 status names here e.0 (cut_malformed (Malformed n row kind) works e.1)
+  means_snapshot status (Line (Malformed n row kind)) works cause (inr (inr e)) = snapshot_means_at 8 status names here e.0 (nothing works.early e.1)
+  means_snapshot status (Line (Fault name kind time)) works cause (inl e) = snapshot_means_at 5 status names here e.0 (fault (Fault name kind time) works (inl e.1))
+  means_snapshot status (Line (Fault name kind time)) works cause (inr (inl e)) = snapshot_means_at 5 status names here e.0 (fault (Fault name kind time) works (inr e.1))
+  means_snapshot status (Line (Fault name kind time)) works cause (inr (inr e)) = snapshot_means_at 8 status names here e.0 (nothing works.early e.1)
+  means_snapshot status (Line UnreadableSpecification) works cause (inl e) = snapshot_means_at 6 status names here e.0 (inl (inl (refusals.unread words before after last 0 (end_text UnreadableSpecification) (inl e.1) works)))
+  means_snapshot status (Line UnreadableSpecification) works cause (inr (inl e)) = snapshot_means_at 6 status names here e.0 (inl (inl (refusals.unread words before after last 0 (end_text UnreadableSpecification) (inr e.1) works)))
+  means_snapshot status (Line UnreadableSpecification) works cause (inr (inr e)) = snapshot_means_at 8 status names here e.0 (nothing works.early e.1)
+  means_snapshot status (Line (UnreadableSource n)) works cause (inl e) = snapshot_means_at 6 status names here e.0 (inr (short (UnreadableSource n) works (inl e.1)))
+  means_snapshot status (Line (UnreadableSource n)) works cause (inr (inl e)) = snapshot_means_at 6 status names here e.0 (inr (short (UnreadableSource n) works (inr e.1)))
+  means_snapshot status (Line (UnreadableSource n)) works cause (inr (inr e)) = snapshot_means_at 8 status names here e.0 (nothing works.early e.1)
+  means_snapshot status (Line (Analysed n w)) works cause e = absurd works
+  means_snapshot status (Drilled line) works cause e = absurd works
+  means_snapshot status (Report text) works cause (inl e) = snapshot_means_at 0 status names here e.0 (saved text works e.1)
+  means_snapshot status (Report text) works cause (inr (inl e)) = snapshot_means_at 7 status names here e.0 (cut_state text works e.1)
+  means_snapshot status (Report text) works cause (inr (inr e)) = snapshot_means_at 8 status names here e.0 (nothing works.early e.1)
+  means_snapshot status (Replayed end) works cause e = absurd works
+  means_snapshot status (Stated state_end.Unreadable) works cause (inl e) = snapshot_means_at 6 status names here e.0 (inl (inr (refusals.unread words before after last 1 (state_end_text state_end.Unreadable) (inl e.1) works)))
+  means_snapshot status (Stated state_end.Unreadable) works cause (inr (inl e)) = snapshot_means_at 6 status names here e.0 (inl (inr (refusals.unread words before after last 1 (state_end_text state_end.Unreadable) (inr e.1) works)))
+  means_snapshot status (Stated state_end.Unreadable) works cause (inr (inr e)) = snapshot_means_at 8 status names here e.0 (nothing works.early e.1)
+  means_snapshot status (Stated (state_end.Damaged line)) works cause (inl e) = means_refused status (refuses (state_end.Damaged line) works (inl e.1)) e.0
+  means_snapshot status (Stated (state_end.Damaged line)) works cause (inr (inl e)) = means_refused status (refuses (state_end.Damaged line) works (inr e.1)) e.0
+  means_snapshot status (Stated (state_end.Damaged line)) works cause (inr (inr e)) = snapshot_means_at 8 status names here e.0 (nothing (early_by (state_end.Damaged line) names.state works) e.1)
+  means_snapshot status (Stated state_end.OtherSpecification) works cause (inl e) = means_refused status (refuses state_end.OtherSpecification works (inl e.1)) e.0
+  means_snapshot status (Stated state_end.OtherSpecification) works cause (inr (inl e)) = means_refused status (refuses state_end.OtherSpecification works (inr e.1)) e.0
+  means_snapshot status (Stated state_end.OtherSpecification) works cause (inr (inr e)) = snapshot_means_at 8 status names here e.0 (nothing (early_by state_end.OtherSpecification names.state works) e.1)
+  means_snapshot status (Stated state_end.TooManySteps) works cause (inl e) = snapshot_means_at 9 status names here e.0 (inr (too_long works.0 (inl e.1), long_end works.0 works.1 cause (inl e.1)))
+  means_snapshot status (Stated state_end.TooManySteps) works cause (inr (inl e)) = snapshot_means_at 9 status names here e.0 (inr (too_long works.0 (inr e.1), long_end works.0 works.1 cause (inr e.1)))
+  means_snapshot status (Stated state_end.TooManySteps) works cause (inr (inr e)) = snapshot_means_at 8 status names here e.0 (nothing works.0.early e.1)
+  means_snapshot status CutFault works cause e = snapshot_means_at 5 status names here e.0 (no_past works IsFaultSnapshot)
+  means_snapshot status Put works cause e = snapshot_means_at 7 status names here e.0 (no_past works IsBrokenSnapshot)
+  means_snapshot status Memory works cause e = snapshot_means_at 8 status names here e.0 (nothing works e.1)
 
   -- what a snapshot leaves, by its status
   pub ended_snapshot : PutsAddUp → (status : ℕ) (outcome : CallEnd) → WorksSnapshot outcome names before after → Causes outcome (inputs_of names) before after → Concluded status outcome after.out last → EndedSnapshot status names here
   ended_snapshot parts status outcome works cause e =
-      ended_by status names here (means_snapshot status outcome works e)
+      ended_by status names here (means_snapshot status outcome works cause e)
       (has_cause (inputs_of names) words before after last parts status outcome (snapshot_ends outcome names before after works) cause e)

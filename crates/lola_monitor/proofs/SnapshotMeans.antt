@@ -7,7 +7,7 @@ use Rattle.lola_monitor.specs.Command.{SnapshotNames}
 use Rattle.lola_monitor.specs.Monitor.{Call, IsEarly, Plans}
 use Rattle.lola_monitor.specs.Pasts.{IsRefusedNamed, IsUnreadNamed}
 use Rattle.lola_monitor.specs.SnapshotOutcomes.{Prepared}
-use Rattle.lola_monitor.specs.Snapshots.{Behind, EndedSnapshot, HasTooManySteps, IsBrokenSnapshot, IsCutShortSnapshot, IsFaultSnapshot, IsMalformedSnapshot, IsPast, IsSaved, IsStateRefusedIn, inputs_of}
+use Rattle.lola_monitor.specs.Snapshots.{Behind, EndedSnapshot, HasTooManySteps, IsBrokenSnapshot, IsCutShortSnapshot, IsFaultSnapshot, IsLongEnd, IsMalformedSnapshot, IsPast, IsSaved, IsStateRefusedIn, inputs_of}
 
 -- it was prepared, and this came of it behind whatever journal it goes on from
 abbrev pub Has : (SnapshotNames → Option ℕ → List Entry → Call → Type 0) → SnapshotNames → Call → Type 0
@@ -20,6 +20,10 @@ pub record Refuses (names : SnapshotNames) (c : Call) : Type 0 where
   pub refused : IsStateRefusedIn names names.state c
   pub none : (start : Option ℕ) (front : List Entry) → IsPast names c.before.shelf names.state start front → ⊥
 
+-- it has too many steps, behind whatever journal it goes on from
+abbrev pub IsTooLong : SnapshotNames → Call → Type 0
+IsTooLong names c = Has HasTooManySteps names c × IsLongEnd names c
+
 -- 0 and from 3 to 9, and no other
 abbrev pub SnapshotMeans : ℕ → SnapshotNames → Call → Type 0
 SnapshotMeans zero names c = Has IsSaved names c
@@ -31,7 +35,7 @@ SnapshotMeans (suc (suc (suc (suc (suc zero))))) names c = Has IsFaultSnapshot n
 SnapshotMeans (suc (suc (suc (suc (suc (suc zero)))))) names c = IsUnreadNamed c ⊎ Has IsCutShortSnapshot names c
 SnapshotMeans (suc (suc (suc (suc (suc (suc (suc zero))))))) names c = Has IsBrokenSnapshot names c
 SnapshotMeans (suc (suc (suc (suc (suc (suc (suc (suc zero)))))))) names c = IsEarly c
-SnapshotMeans (suc (suc (suc (suc (suc (suc (suc (suc (suc zero))))))))) names c = Refuses names c ⊎ Has HasTooManySteps names c
+SnapshotMeans (suc (suc (suc (suc (suc (suc (suc (suc (suc zero))))))))) names c = Refuses names c ⊎ IsTooLong names c
 SnapshotMeans (suc (suc (suc (suc (suc (suc (suc (suc (suc (suc n)))))))))) names c = ⊥
 
 pub snapshot_means_at : (n status : ℕ) (names : SnapshotNames) (c : Call) → status ≡ n → SnapshotMeans n names c → SnapshotMeans status names c
@@ -40,7 +44,7 @@ snapshot_means_at n status names c is means = subst (λ k. SnapshotMeans k names
 -- what holds at each status that comes
 pub by_snapshot : (P : ℕ → Type 0) (names : SnapshotNames) (c : Call) → (Has IsSaved names c → P 0) → (IsRefusedNamed names.specification c → P 3) → (Has IsMalformedSnapshot names c → P 4)
     → (Has IsFaultSnapshot names c → P 5) → (IsUnreadNamed c ⊎ Has IsCutShortSnapshot names c → P 6) → (Has IsBrokenSnapshot names c → P 7) → (IsEarly c → P 8)
-    → (Refuses names c ⊎ Has HasTooManySteps names c → P 9) → (status : ℕ) → SnapshotMeans status names c → P status
+    → (Refuses names c ⊎ IsTooLong names c → P 9) → (status : ℕ) → SnapshotMeans status names c → P status
 by_snapshot P names c saved refused malformed fault unreadable broken memory state zero means = saved means
 by_snapshot P names c saved refused malformed fault unreadable broken memory state (suc zero) means = absurd means
 by_snapshot P names c saved refused malformed fault unreadable broken memory state (suc (suc zero)) means = absurd means
@@ -57,9 +61,9 @@ without : (names : SnapshotNames) (c : Call) → IsUnreadNamed c ⊎ Has IsCutSh
 without names c (inl unread) = inl unread
 without names c (inr short) = inr short.1
 
-refusing : (names : SnapshotNames) (c : Call) → Refuses names c ⊎ Has HasTooManySteps names c → IsStateRefusedIn names names.state c ⊎ Behind HasTooManySteps names c
+refusing : (names : SnapshotNames) (c : Call) → Refuses names c ⊎ IsTooLong names c → IsStateRefusedIn names names.state c ⊎ (IsLongEnd names c × Behind HasTooManySteps names c)
 refusing names c (inl refuses) = inl refuses.refused
-refusing names c (inr long) = inr long.1
+refusing names c (inr long) = inr (long.1, long.0.1)
 
 abbrev IsSnapshotStatus : ℕ → Type 0
 IsSnapshotStatus n = (n ≡ 0) ⊎ ((3 ≤ n) × (n ≤ 9))

@@ -6,16 +6,17 @@ use Rattle.lola_rows.specs.Rows.{SourceEnd, Whole}
 use Rattle.lola_port.specs.States.{SinkState}
 use Rattle.lola_save_text.specs.Damage.{IsStateText}
 use Rattle.lola_save_text.specs.Fitting.{most_steps}
+use Rattle.lola_monitor.specs.Causes.{Causes}
 use Rattle.lola_monitor.specs.Command.{SnapshotNames}
 use Rattle.lola_monitor.specs.Conclusions.{Concluded}
 use Rattle.lola_monitor.specs.Monitor.{Call, Outside, Plans, call, source_rows}
 use Rattle.lola_monitor.specs.Pasts.{IsReadable, IsRefusedNamed, IsSpoiledNamed, IsUnreadNamed}
 use Rattle.lola_monitor.specs.SnapshotOutcomes.{HasState, Prepared, WorksSnapshot}
-use Rattle.lola_monitor.specs.Snapshots.{DecidedSnapshot, HasTooManySteps, IsBadStateIn, IsBrokenSnapshot, IsCleanSnapshot, IsCutShortSnapshot, IsFaultSnapshot, IsMalformedSnapshot, IsSaved, RowsBehind, steps_with}
+use Rattle.lola_monitor.specs.Snapshots.{DecidedSnapshot, IsBadStateIn, IsBrokenSnapshot, IsCleanSnapshot, IsCutShortSnapshot, IsFaultSnapshot, IsMalformedSnapshot, IsSaved, RowsBehind, inputs_of, steps_with}
 use Rattle.lola_monitor.specs.declared.call_end.CallEnd.{CallEnd}
 use Rattle.lola_monitor.proofs.Listed.{get_beside}
 use Rattle.lola_monitor.proofs.SnapshotEnds.{means_snapshot}
-use Rattle.lola_monitor.proofs.SnapshotMeans.{Has, Refuses, SnapshotMeans, by_snapshot}
+use Rattle.lola_monitor.proofs.SnapshotMeans.{Has, IsTooLong, Refuses, SnapshotMeans, by_snapshot}
 use Rattle.lola_monitor.proofs.Statuses.{is_whole, none_malformed}
 
 not_both : (n m : ℕ) → n ≤ m → m < n → ⊥
@@ -68,9 +69,9 @@ module _ (names : SnapshotNames) (c : Call) where
     clean_state bad = bad.none clean.start clean.front clean.is_past
 
     module _ (few : (run : RowsBehind names clean.start clean.front c) → steps_with names clean.start clean.front c run ≤ most_steps) where
-      clean_long : Refuses names c ⊎ Has HasTooManySteps names c → ⊥
+      clean_long : Refuses names c ⊎ IsTooLong names c → ⊥
       clean_long (inl bad) = clean_state bad
-      clean_long (inr has) = let bad = has.1 clean.start clean.front clean.is_past in not_both _ most_steps (few bad.snapshot.all.run) bad.many
+      clean_long (inr has) = let bad = has.0.1 clean.start clean.front clean.is_past in not_both _ most_steps (few bad.snapshot.all.run) bad.many
 
     module _ (many : (run : RowsBehind names clean.start clean.front c) → most_steps < steps_with names clean.start clean.front c run) where
       clean_saved : Has IsSaved names c → ⊥
@@ -88,9 +89,9 @@ module _ (names : SnapshotNames) (c : Call) where
     spoiled_unreadable (inl (inr unread)) = spoiled.shelf unread.rose
     spoiled_unreadable (inr has) = spoiled_has has.0
 
-    spoiled_state : Refuses names c ⊎ Has HasTooManySteps names c → ⊥
+    spoiled_state : Refuses names c ⊎ IsTooLong names c → ⊥
     spoiled_state (inl bad) = no_plan bad.plan bad.is_plan
-    spoiled_state (inr has) = spoiled_has has.0
+    spoiled_state (inr has) = spoiled_has has.0.0
 
   -- a state that is none
   bad_read : (o : Option (List ℕ)) → IsBadStateIn names o c → IsReadable names.specification c
@@ -132,6 +133,6 @@ module _ (names : SnapshotNames) (c : Call) where
   }
 
 -- which statuses a snapshot can have, by what it was given
-pub decided_snapshot : (words : List (List ℕ)) (names : SnapshotNames) (before after : Outside) (last : SinkState) (status : ℕ) (outcome : CallEnd) → WorksSnapshot outcome names before after → Concluded status outcome after.out last
+pub decided_snapshot : (words : List (List ℕ)) (names : SnapshotNames) (before after : Outside) (last : SinkState) (status : ℕ) (outcome : CallEnd) → WorksSnapshot outcome names before after → Causes outcome (inputs_of names) before after → Concluded status outcome after.out last
     → DecidedSnapshot status names (call words before (record after { out = last }))
-decided_snapshot words names before after last status outcome works e = decided_by names (call words before (record after { out = last })) status (means_snapshot words names before after last status outcome works e)
+decided_snapshot words names before after last status outcome works cause e = decided_by names (call words before (record after { out = last })) status (means_snapshot words names before after last status outcome works cause e)

@@ -16,8 +16,9 @@ use Rattle.lola_save_text.specs.Fitting.{most_steps}
 use Rattle.lola_save_text.specs.Lines.{state_text}
 use Rattle.lola_monitor_run.specs.Behind.{IsRowFaultBehind}
 use Rattle.lola_monitor_run.specs.Verdicts.{Setting, settled_fault_in}
-use Rattle.lola_monitor.specs.Causes.{HasCause}
+use Rattle.lola_monitor.specs.Causes.{AllReadWell, HasCause}
 use Rattle.lola_monitor.specs.Command.{SnapshotNames}
+use Rattle.lola_monitor.specs.LongStates.{IsLongState}
 use Rattle.lola_monitor.specs.Monitor.{Call, IsEarly, IsUntraced, MalformedSource, WereGiven, Wrote, fault_line}
 use Rattle.lola_monitor.specs.Pasts.{AreAllRows, AreRowsBeforeMalformed, AreRowsOfOthers, AreWellTold, Inputs, IsBadState, IsFrontIn, IsReadable, IsRefusedNamed, IsSpoiledNamed, IsStateRefused, IsUnreadNamed, RanBehind, malformed_line, setting_behind}
 
@@ -108,6 +109,12 @@ pub record HasTooManySteps (names : SnapshotNames) (start : Option ℕ) (front :
   pub many : most_steps < steps_in names start front c snapshot
   pub out : Wrote c.before.out c.after.out (state_end_text state_end.TooManySteps)
 
+-- 9: all sources were read to their ends, which are well, and the state that it goes on from has nearly as many steps as one can have
+pub record IsLongEnd (names : SnapshotNames) (c : Call) : Type 0 where
+  pub all : AllReadWell (inputs_of names) c.before.shelf c.after.shelf
+  pub state : IsLongState names.state c.before.shelf
+  pub out : Wrote c.before.out c.after.out (state_end_text state_end.TooManySteps)
+
 -- 9: the state that it goes on from is refused
 abbrev pub IsStateRefusedIn : SnapshotNames → Option (List ℕ) → Call → Type 0
 IsStateRefusedIn names None c = ⊥
@@ -122,7 +129,7 @@ pub record EndedSnapshot (status : ℕ) (names : SnapshotNames) (c : Call) : Typ
   pub unreadable : status ≡ 6 → IsUnreadNamed c ⊎ Behind IsCutShortSnapshot names c
   pub broken : status ≡ 7 → Behind IsBrokenSnapshot names c
   pub memory : status ≡ 8 → IsEarly c
-  pub state : status ≡ 9 → IsStateRefusedIn names names.state c ⊎ Behind HasTooManySteps names c
+  pub state : status ≡ 9 → IsStateRefusedIn names names.state c ⊎ (IsLongEnd names c × Behind HasTooManySteps names c)
   pub cause : HasCause status (inputs_of names) c
   pub others : (status ≡ 0) ⊎ ((3 ≤ status) × (status ≤ 9))
 
