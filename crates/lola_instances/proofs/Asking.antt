@@ -25,7 +25,7 @@ use Rattle.lola_instances_stream.proofs.Finding.{places, seen_at}
 use Rattle.lola_instances_stream.proofs.Outcomes.{item_at}
 use Rattle.lola_instances.specs.declared.store.BoundedStore.{BoundedStore}
 use Rattle.lola_instances.specs.Placed.{IsPaneOf}
-use Rattle.lola_instances.specs.Stages.{start_in, time_in}
+use Rattle.lola_instances.specs.Phases.{start_in, time_in}
 use Rattle.lola_instances.specs.Stores.{bounded_seen, bounded_remembers}
 use Rattle.lola_instances.specs.Streams.{crowd_layout, slots_in, slot_at}
 use Rattle.lola_instances.proofs.Phases.{phase_start, phase_time}
@@ -114,7 +114,7 @@ module _ (s : BoundedStore) (n : ℕ) (c : Crowd) (p : Params) (r : Outcome) (e 
       subst (λ (o : Option ℕ). MatchOption o B Q) (sym (place_is s n c p e))
       (match_map (place_in p c.slots 0) (r ≡ now_in s.step c p) B P Q (λ q. q ∙ sym w)
       (λ i f names values m held.
-      let a = f (start_in s.stage) (time_in s.stage) names values (subst (λ (o : Option Holdings). RemembersAt (start_in s.stage) (time_in s.stage) s.step names o values) (slot_is s.step s.streams.items n c e i) m) in
+      let a = f (start_in s.phase) (time_in s.phase) names values (subst (λ (o : Option Holdings). RemembersAt (start_in s.phase) (time_in s.phase) s.step names o values) (slot_is s.step s.streams.items n c e i) m) in
       (a.0 ∙ ap (λ o. held_answer (read_outcome names o) values) (sym w), a.1)) h)
 
   pub back_told : (k : ℕ) → MatchOption (place_in p c.slots 0) (r ≡ outcome.Missing)
@@ -131,18 +131,18 @@ module _ (s : BoundedStore) (n : ℕ) (c : Crowd) (p : Params) (r : Outcome) (e 
       subst (λ (o : Option ℕ). MatchOption o B Q) (sym (place_is s n c p e))
       (match_map (place_in p c.slots 0) B B P Q (λ q. q)
       (λ i f names values m.
-      f (start_in s.stage) (time_in s.stage) names values (subst (λ (o : Option Holdings). RemembersAt (start_in s.stage) (time_in s.stage) s.step names o values) (slot_is s.step s.streams.items n c e i) m)) h)
+      f (start_in s.phase) (time_in s.phase) names values (subst (λ (o : Option Holdings). RemembersAt (start_in s.phase) (time_in s.phase) s.step names o values) (slot_is s.step s.streams.items n c e i) m)) h)
 
 -- windows
 
 -- the definitions' window is that of the panes
 reading_is : (s : BoundedStore) (w : WindowSpec) (size : PaneSize) (q : WindowPanes) (c : Crowd) (names : Naming) (now : Outcome) (values : List (ℕ × Field)) → IsPaneOf c.layout.kind w size q
     → slice_get s.streams.items w.target ≡ Some c
-    → windowed (start_in s.stage) (time_in s.stage) q (read_outcome names now) values
+    → windowed (start_in s.phase) (time_in s.phase) q (read_outcome names now) values
     ≡ window_over (bounded_seen s) (Some w) (kind_in (slice_get (map crowd_layout s.streams.items) w.target)) (read_outcome names now) values
 reading_is s w size q c names now values a e =
-    let t = sym (phase_time s.stage) in
-    let b = sym (phase_start s.stage) in
+    let t = sym (phase_time s.phase) in
+    let b = sym (phase_start s.phase) in
     let k = a.kind_is ∙ sym (ap kind_in (layout_at s.streams.items w.target c e)) in
     λ j. if spoiled (read_outcome names now) then Poisoned
     else if a.exact j && nat_lt (t j) (b j + a.over j) then Missing
@@ -155,7 +155,7 @@ OfStream s c offset p r q = MatchOption (place_in p c.slots 0)
     → read_outcome names r ≡ windowed start time q (read_outcome names (now_in s.step c p)) values)
 
 pub window_told : (s : BoundedStore) (window : ℕ) (w : WindowSpec) (size : PaneSize) (q : WindowPanes) (c : Crowd) (p : Params) (r : Outcome) → slice_get s.windows window ≡ Some w → IsPaneOf c.layout.kind w size q
-    → slice_get s.streams.items w.target ≡ Some c → OfStream s c (time_in s.stage - start_in s.stage) p r q
+    → slice_get s.streams.items w.target ≡ Some c → OfStream s c (time_in s.phase - start_in s.phase) p r q
     → MatchOption (place_of (bounded_seen s) (target_of (slice_get s.windows window)) p)
     ((names : Naming) → read_outcome names r ≡ window_reading (bounded_seen s) window names (now_of (bounded_seen s) (target_of (slice_get s.windows window)) p) [])
     (λ i. (names : Naming) (values : List (ℕ × Field)) → bounded_remembers s names (target_of (slice_get s.windows window)) i values
@@ -167,19 +167,19 @@ window_told s window w size q c p r f a e h =
     → read_outcome names r ≡ window_over (bounded_seen s) o (kind_in (slice_get (map crowd_layout s.streams.items) (target_of o))) (read_outcome names (now_of (bounded_seen s) (target_of o) p)) values)) (sym f)
     (subst (λ (o : Option ℕ). MatchOption o B Q) (sym (place_is s w.target c p e))
     (match_map (place_in p c.slots 0) A B P Q
-    (λ g names. g (start_in s.stage) (time_in s.stage) names refl s.time_ge ∙ answer names [])
+    (λ g names. g (start_in s.phase) (time_in s.phase) names refl s.time_ge ∙ answer names [])
     (λ i g names values m.
-    g (start_in s.stage) (time_in s.stage) names values (subst (λ (o : Option Holdings). RemembersAt (start_in s.stage) (time_in s.stage) s.step names o values) (slot_is s.step s.streams.items w.target c e i) m) refl s.time_ge
+    g (start_in s.phase) (time_in s.phase) names values (subst (λ (o : Option Holdings). RemembersAt (start_in s.phase) (time_in s.phase) s.step names o values) (slot_is s.step s.streams.items w.target c e i) m) refl s.time_ge
     ∙ answer names values) h))
   where
     offset : ℕ
-    offset = time_in s.stage - start_in s.stage
+    offset = time_in s.phase - start_in s.phase
 
     A : Type 0
-    A = (start time : ℕ) (names : Naming) → time_in s.stage - start_in s.stage ≡ time - start → start ≤ time → read_outcome names r ≡ windowed start time q (read_outcome names (now_in s.step c p)) []
+    A = (start time : ℕ) (names : Naming) → time_in s.phase - start_in s.phase ≡ time - start → start ≤ time → read_outcome names r ≡ windowed start time q (read_outcome names (now_in s.step c p)) []
 
     P : ℕ → Type 0
-    P i = (start time : ℕ) (names : Naming) (values : List (ℕ × Field)) → RemembersAt start time s.step names (slice_get c.slots i) values → time_in s.stage - start_in s.stage ≡ time - start → start ≤ time
+    P i = (start time : ℕ) (names : Naming) (values : List (ℕ × Field)) → RemembersAt start time s.step names (slice_get c.slots i) values → time_in s.phase - start_in s.phase ≡ time - start → start ≤ time
         → read_outcome names r ≡ windowed start time q (read_outcome names (now_in s.step c p)) values
 
     B : Type 0
@@ -189,10 +189,10 @@ window_told s window w size q c p r f a e h =
     Q i = (names : Naming) (values : List (ℕ × Field)) → bounded_remembers s names w.target i values
         → read_outcome names r ≡ window_over (bounded_seen s) (Some w) (kind_in (slice_get (map crowd_layout s.streams.items) w.target)) (read_outcome names (now_of (bounded_seen s) w.target p)) values
 
-    answer : (names : Naming) (values : List (ℕ × Field)) → windowed (start_in s.stage) (time_in s.stage) q (read_outcome names (now_in s.step c p)) values
+    answer : (names : Naming) (values : List (ℕ × Field)) → windowed (start_in s.phase) (time_in s.phase) q (read_outcome names (now_in s.step c p)) values
         ≡ window_over (bounded_seen s) (Some w) (kind_in (slice_get (map crowd_layout s.streams.items) w.target)) (read_outcome names (now_of (bounded_seen s) w.target p)) values
     answer names values =
-        ap (λ o. windowed (start_in s.stage) (time_in s.stage) q (read_outcome names o) values) (sym (now_is s w.target c p e))
+        ap (λ o. windowed (start_in s.phase) (time_in s.phase) q (read_outcome names o) values) (sym (now_is s w.target c p e))
         ∙ reading_is s w size q c names (now_of (bounded_seen s) w.target p) values a e
 
 -- an instance by its places, and what is true of it
@@ -232,8 +232,8 @@ placed_window s window place w c f g e l =
     record { size = size.0; sized = size.1; below = p.below; q = q.0; at = q.1; is = p.is q.0 q.1 }
 
 pub whole_offset : (s : BoundedStore) (window place : ℕ) (w : WindowSpec) (c : Crowd) (f : Found s window place w c) → ((k : ℕ) × (time_seen (bounded_seen s) ≡ start_seen (bounded_seen s) + k * pane_of (slice_get s.sizes window)))
-    → (k : ℕ) × (time_in s.stage - start_in s.stage ≡ k * f.q.pane)
+    → (k : ℕ) × (time_in s.phase - start_in s.phase ≡ k * f.q.pane)
 whole_offset s window place w c f h =
-    let t : time_in s.stage ≡ start_in s.stage + h.0 * f.q.pane =
-    sym (phase_time s.stage) ∙ (h.1 ∙ (λ j. phase_start s.stage j + h.0 * (ap pane_of f.sized ∙ sym f.is.pane) j)) in
+    let t : time_in s.phase ≡ start_in s.phase + h.0 * f.q.pane =
+    sym (phase_time s.phase) ∙ (h.1 ∙ (λ j. phase_start s.phase j + h.0 * (ap pane_of f.sized ∙ sym f.is.pane) j)) in
     (h.0, omega arith)

@@ -15,7 +15,7 @@ use Rattle.lola_instances_one.specs.Unborn.{AllPanesOf, ArePanesOf}
 use Rattle.lola_instances_stream.specs.Crowds.{RemembersAt, shown_at}
 use Rattle.lola_instances_stream.proofs.Outcomes.{item_at}
 use Rattle.lola_instances.specs.Saved.{partials_of, values_by_now}
-use Rattle.lola_instances.specs.Stages.{start_in, time_in}
+use Rattle.lola_instances.specs.Phases.{start_in, time_in}
 use Rattle.lola_instances.specs.Stores.{bounded_seen}
 use Rattle.lola_instances.specs.Streams.{crowd_layout, slot_at, values_of}
 use Rattle.lola_instances.specs.declared.store.BoundedStore.{BoundedStore}
@@ -24,10 +24,10 @@ use Rattle.lola_instances.proofs.Phases.{phase_start, phase_time}
 
 module _ (s : BoundedStore) (n i : ℕ) (x : Holdings) (at : slot_at s.streams.items n i ≡ Some x) where
   -- this step's outcome is what is shown
-  life_is : (names : Naming) (values : List (ℕ × Field)) → life_values (time_in s.stage) s.step names x values ≡ values_by_now s names n i values
+  life_is : (names : Naming) (values : List (ℕ × Field)) → life_values (time_in s.phase) s.step names x values ≡ values_by_now s names n i values
   life_is names values =
       let e : now_seen (bounded_seen s) n i ≡ shown s.step x = shows_at s.step s.streams.items n i ∙ ap (shown_at s.step) at in
-      λ j. values ++ one_more (sym (phase_time s.stage) j) (read_outcome names (sym e j))
+      λ j. values ++ one_more (sym (phase_time s.phase) j) (read_outcome names (sym e j))
 
   -- it keeps as many values as its stream
   pub kept_is : x.ring.capacity ≡ kept_in (slice_get (map crowd_layout s.streams.items) n)
@@ -36,7 +36,7 @@ module _ (s : BoundedStore) (n i : ℕ) (x : Holdings) (at : slot_at s.streams.i
       let here : slice_get c.0.slots i ≡ Some x = sym (slot_is s.step s.streams.items n c.0 c.1 i) ∙ at in
       ((s.right n c.0 c.1).each i x here).steady.capacity ∙ sym (ap kept_in (layout_at s.streams.items n c.0 c.1))
 
-pub kept_last : (s : BoundedStore) (names : Naming) (n i : ℕ) (values : List (ℕ × Field)) (o : Option Holdings) → slot_at s.streams.items n i ≡ o → RemembersAt (start_in s.stage) (time_in s.stage) s.step names o values
+pub kept_last : (s : BoundedStore) (names : Naming) (n i : ℕ) (values : List (ℕ × Field)) (o : Option Holdings) → slot_at s.streams.items n i ≡ o → RemembersAt (start_in s.phase) (time_in s.phase) s.step names o values
     → map (read names) (values_of o) ≡ keep_last (kept_in (slice_get (map crowd_layout s.streams.items) n)) (map (λ v. v.1) (values_by_now s names n i values))
 kept_last s names n i values None at h = absurd h
 kept_last s names n i values (Some x) at h = h.ring ∙ (λ j. keep_last (kept_is s n i x at j) (map (λ (v : ℕ × Field). v.1) (life_is s n i x at names values j)))
@@ -50,12 +50,12 @@ stand_at (q ∷ ps) all zero p h e = let w : q ≡ p = cc in subst (λ (r : Part
 stand_at (q ∷ ps) all (suc k) p h e = stand_at ps all k p h.1 e
 
 pub panes_stand : (s : BoundedStore) (names : Naming) (n i : ℕ) (values : List (ℕ × Field)) (p : Partials) (o : Option Holdings) (k : Option ℕ) → slot_at s.streams.items n i ≡ o → partials_of o k ≡ Some p
-    → RemembersAt (start_in s.stage) (time_in s.stage) s.step names o values → StandFor p (map (shifted (start_seen (bounded_seen s))) (values_by_now s names n i values))
+    → RemembersAt (start_in s.phase) (time_in s.phase) s.step names o values → StandFor p (map (shifted (start_seen (bounded_seen s))) (values_by_now s names n i values))
 panes_stand s names n i values p None k at e h = absurd h
 panes_stand s names n i values p (Some x) None at e h = absurd (cc)
 panes_stand s names n i values p (Some x) (Some k) at e h =
-    subst (λ t. t) (λ j. StandFor p (map (shifted (sym (phase_start s.stage) j)) (life_is s n i x at names values j)))
-    (stand_at x.panes (map (shifted (start_in s.stage)) (life_values (time_in s.stage) s.step names x values)) k p h.panes e)
+    subst (λ t. t) (λ j. StandFor p (map (shifted (sym (phase_start s.phase) j)) (life_is s n i x at names values j)))
+    (stand_at x.panes (map (shifted (start_in s.phase)) (life_values (time_in s.phase) s.step names x values)) k p h.panes e)
 
 -- and what they are
 

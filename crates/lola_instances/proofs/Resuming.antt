@@ -18,9 +18,9 @@ use Rattle.lola_instances_stream.specs.Rights.{CrowdRight, IsUntold, SlotRight, 
 use Rattle.lola_instances_stream.proofs.Beginnings.{started_at}
 use Rattle.lola_instances_stream.proofs.Outcomes.{given_more, not_shown}
 use Rattle.lola_instances.specs.Placed.{ArePlaced, AreCovered}
-use Rattle.lola_instances.specs.Restoring.{FollowsStart, all_spawned, phase_at, resumed, spawned_in, stage_at, steps_at}
+use Rattle.lola_instances.specs.Restoring.{FollowsStart, all_spawned, phase_at, resumed, spawned_in, store_phase_at, steps_at}
 use Rattle.lola_instances.specs.Spawning.{AreNumbered}
-use Rattle.lola_instances.specs.Stages.{is_on, phase_in, start_in, time_in}
+use Rattle.lola_instances.specs.Phases.{is_on, phase_in, start_in, time_in}
 use Rattle.lola_instances.specs.Streams.{crowd_layout, slot_at}
 use Rattle.lola_instances.proofs.Changing.{placed_as}
 
@@ -224,27 +224,27 @@ module _ (step offset : ℕ) (c : Crowd) (l : 1 ≤ step) (f : IsFresh c) (h : C
       }
 
 pub resumed_right : (start last : Option ℕ) (step offset : ℕ) (c d : Crowd) → 1 ≤ step → FollowsStart start last → IsFresh c → CrowdRight false false 1 0 c → Was last step c d
-    → CrowdRight (is_on (stage_at start last)) false step offset d
+    → CrowdRight (is_on (store_phase_at start last)) false step offset d
 resumed_right None None step offset c d l o f h w = subst (CrowdRight false false step offset) (sym w) (still_right step offset c l f h)
 resumed_right None (Some last) step offset c d l o f h w = absurd o
 resumed_right (Some start) None step offset c d l o f h w = subst (CrowdRight false false step offset) (sym w) (still_right step offset c l f h)
 resumed_right (Some start) (Some last) step offset c d l o f h w = subst (CrowdRight true false step offset) (sym w) (over_right step offset c l f h)
 
-pub stage_order : (start last : Option ℕ) → FollowsStart start last → start_in (stage_at start last) ≤ time_in (stage_at start last)
-stage_order None None o = omega arith
-stage_order None (Some last) o = absurd o
-stage_order (Some start) None o = omega arith
-stage_order (Some start) (Some last) o = o
+pub phase_order : (start last : Option ℕ) → FollowsStart start last → start_in (store_phase_at start last) ≤ time_in (store_phase_at start last)
+phase_order None None o = omega arith
+phase_order None (Some last) o = absurd o
+phase_order (Some start) None o = omega arith
+phase_order (Some start) (Some last) o = o
 
-pub stage_phase : (start last : Option ℕ) → phase_in (stage_at start last) ≡ phase_at start last
-stage_phase None last = refl
-stage_phase (Some start) None = refl
-stage_phase (Some start) (Some last) = refl
+pub phase_is_seen : (start last : Option ℕ) → phase_in (store_phase_at start last) ≡ phase_at start last
+phase_is_seen None last = refl
+phase_is_seen (Some start) None = refl
+phase_is_seen (Some start) (Some last) = refl
 
-pub stage_begun : (start last : Option ℕ) (steps : ℕ) → is_on (stage_at start last) ≡ true → 2 ≤ steps_at last steps + 1
-stage_begun None last steps e = cc
-stage_begun (Some start) None steps e = cc
-stage_begun (Some start) (Some last) steps e = omega arith
+pub phase_begun : (start last : Option ℕ) (steps : ℕ) → is_on (store_phase_at start last) ≡ true → 2 ≤ steps_at last steps + 1
+phase_begun None last steps e = cc
+phase_begun (Some start) None steps e = cc
+phase_begun (Some start) (Some last) steps e = omega arith
 
 pub steps_few : (last : Option ℕ) (steps : ℕ) → steps_at last steps ≤ steps + 1
 steps_few None steps = omega arith

@@ -18,7 +18,7 @@ use Rattle.lola_instances_stream.specs.Crowds.{RemembersAt, shown_at}
 use Rattle.lola_instances_stream.proofs.Outcomes.{is_missing, item_at}
 use Rattle.lola_instances.specs.Opening.{ArePlaces, count_onto}
 use Rattle.lola_instances.specs.Saved.{MayHaveHadIn, partials_of}
-use Rattle.lola_instances.specs.Stages.{start_in, time_in}
+use Rattle.lola_instances.specs.Phases.{start_in, time_in}
 use Rattle.lola_instances.specs.Stores.{bounded_seen}
 use Rattle.lola_instances.specs.Streams.{slot_at, slots_in, values_of}
 use Rattle.lola_instances.specs.declared.store.BoundedStore.{BoundedStore}
@@ -76,18 +76,18 @@ none_lives s n i at l =
     cc
 
 pub silent_by_windows : (s : BoundedStore) (names : Naming) (n i : ℕ) (values : List (ℕ × Field)) (o : Option Holdings) → slot_at s.streams.items n i ≡ o → IsTrue (is_silent (now_seen (bounded_seen s) n i))
-    → MayHaveHadIn s names n i values → RemembersAt (start_in s.stage) (time_in s.stage) s.step names (slot_at s.streams.items n i) values
+    → MayHaveHadIn s names n i values → RemembersAt (start_in s.phase) (time_in s.phase) s.step names (slot_at s.streams.items n i) values
 silent_by_windows s names n i values None at silent h = absurd (none_lives s n i at h.lives)
 silent_by_windows s names n i values (Some x) at silent h =
-    let start = phase_start s.stage in
+    let start = phase_start s.phase in
     let shows : now_seen (bounded_seen s) n i ≡ shown s.step x = shows_at s.step s.streams.items n i ∙ ap (shown_at s.step) at in
     let none : shown s.step x ≡ outcome.Missing = sym shows ∙ is_missing (now_seen (bounded_seen s) n i) silent in
     let kept : values_of (slot_at s.streams.items n i) ≡ x.ring.values = ap values_of at in
-    let had : MayHaveHad (start_in s.stage) names x values = record {
+    let had : MayHaveHad (start_in s.phase) names x values = record {
       ring = ap (map (read names)) (sym kept) ∙ (h.last ∙ ap (λ (k : ℕ). keep_last k (map (λ (v : ℕ × Field). v.1) values)) (sym (kept_is s n i x at)));
       panes = subst (λ (k : ℕ). AllStandFor x.panes (map (shifted k) values)) start (windows_stand s n i x at (map (shifted (start_seen (bounded_seen s))) values) h.panes);
       since = subst (λ (k : ℕ). AllSince k values) start h.since;
       held = subst (AreHeld names) kept h.held;
     } in
-    subst (λ (q : Option Holdings). RemembersAt (start_in s.stage) (time_in s.stage) s.step names q values) (sym at)
-    (silent-remembers (start_in s.stage) (time_in s.stage) s.step names x values none had)
+    subst (λ (q : Option Holdings). RemembersAt (start_in s.phase) (time_in s.phase) s.step names q values) (sym at)
+    (silent-remembers (start_in s.phase) (time_in s.phase) s.step names x values none had)

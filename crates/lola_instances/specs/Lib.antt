@@ -4,7 +4,7 @@ pub mod Placed
 pub mod Renaming
 pub mod Rooms
 pub mod Spawning
-pub mod Stages
+pub mod Phases
 pub mod Stores
 pub mod Streams
 pub mod Texts

@@ -13,7 +13,7 @@ use Rattle.lola_instances_stream.specs.Each.{Each}
 use Rattle.lola_instances_stream.specs.Texts.{crowd_texts}
 use Rattle.lola_instances_stream.proofs.Needing.{Shows, shows_within, lives_show, kept_at}
 use Rattle.lola_instances.specs.declared.store.BoundedStore.{BoundedStore}
-use Rattle.lola_instances.specs.Stages.{start_in, time_in}
+use Rattle.lola_instances.specs.Phases.{start_in, time_in}
 use Rattle.lola_instances.specs.Stores.{bounded_seen, bounded_remembers}
 use Rattle.lola_instances.specs.Streams.{slot_at}
 use Rattle.lola_instances.specs.Texts.{bounded_texts}
@@ -53,4 +53,4 @@ bounded_shows s n i x e = streams_show s.step s.streams.items n i x (bounded_kee
 pub bounded_kept : (s : BoundedStore) (names fewer : Naming) (n i : ℕ) (values : List (ℕ × Field)) → KeepsTexts (bounded_texts s) names fewer → bounded_remembers s names n i values
     → bounded_remembers s fewer n i values
 bounded_kept s names fewer n i values k h =
-    kept_at (bounded_texts s) names fewer (start_in s.stage) (time_in s.stage) s.step (slot_at s.streams.items n i) values (λ x e. slot_within s.streams.items n i x (bounded_keeps s) e) k h
+    kept_at (bounded_texts s) names fewer (start_in s.phase) (time_in s.phase) s.step (slot_at s.streams.items n i) values (λ x e. slot_within s.streams.items n i x (bounded_keeps s) e) k h

@@ -7,8 +7,8 @@ use Rattle.lola_instances_one.specs.Holdings.{Holdings}
 use Rattle.lola_instances_stream.specs.Births.{newborn}
 use Rattle.lola_instances_stream.specs.Crowds.{Crowd}
 use Rattle.lola_instances_stream.specs.Restoring.{HasPanesRestored}
-use Rattle.lola_instances.specs.declared.stage.StorePhase.{StorePhase}
-use Rattle.lola_instances.specs.declared.stage.StorePhase.TheVariants as stage
+use Rattle.lola_instances.specs.declared.phase.StorePhase.{StorePhase}
+use Rattle.lola_instances.specs.declared.phase.StorePhase.TheVariants as phase
 use Rattle.lola_instances.specs.declared.store.BoundedStore.{BoundedStore}
 use Rattle.lola_instances.specs.Saved.{instance_at, places_in}
 
@@ -43,10 +43,10 @@ after_resume s start last steps = record s { phase = phase_at start last; steps 
 
 -- the same of the store itself
 
-abbrev pub stage_at : Option ℕ → Option ℕ → StorePhase
-stage_at None last = stage.New
-stage_at (Some start) None = stage.Started start
-stage_at (Some start) (Some last) = stage.Running start last
+abbrev pub store_phase_at : Option ℕ → Option ℕ → StorePhase
+store_phase_at None last = phase.New
+store_phase_at (Some start) None = phase.Started start
+store_phase_at (Some start) (Some last) = phase.Running start last
 
 -- a stream whose spawn clause ran in the step of a number
 abbrev pub spawned_in : ℕ → Crowd → Crowd

@@ -7,7 +7,7 @@ use Rattle.lola_model.specs.Store.{Seen, target_of}
 use Rattle.lola_panes.specs.declared.pane.Pane.{Pane}
 use Rattle.lola_instances_stream.specs.Crowds.{crowd_seen, RemembersAt}
 use Rattle.lola_instances.specs.declared.store.BoundedStore.{BoundedStore}
-use Rattle.lola_instances.specs.Stages.{phase_in, start_in, time_in}
+use Rattle.lola_instances.specs.Phases.{phase_in, start_in, time_in}
 use Rattle.lola_instances.specs.Streams.{crowd_layout, panes_of, slot_at, values_of}
 
 -- what it shows
@@ -15,7 +15,7 @@ abbrev pub bounded_seen : BoundedStore → Seen
 bounded_seen s =
     record {
       layout = record { streams = map crowd_layout s.streams.items; windows = s.windows; panes = s.sizes };
-      phase = phase_in s.stage;
+      phase = phase_in s.phase;
       prepared = s.prepared;
       steps = s.step - 1;
       streams = map (crowd_seen s.step) s.streams.items;
@@ -23,7 +23,7 @@ bounded_seen s =
 
 -- the lists of values that an instance may have had: they end as its last values do, and its panes stand for them
 abbrev pub bounded_remembers : BoundedStore → Naming → ℕ → ℕ → List (ℕ × Field) → Type 0
-bounded_remembers s names n i values = RemembersAt (start_in s.stage) (time_in s.stage) s.step names (slot_at s.streams.items n i) values
+bounded_remembers s names n i values = RemembersAt (start_in s.phase) (time_in s.phase) s.step names (slot_at s.streams.items n i) values
 
 -- the values that it keeps of an instance
 abbrev pub values_kept : BoundedStore → ℕ → ℕ → List Value

@@ -8,7 +8,7 @@ ghost use Rattle.lola_model.specs.Reading.{KeepsAll};
 ghost use Rattle.lola_model.specs.Store.{IsNew, CanBegin, after_start, after_begin, time_seen, now_seen};
 ghost use Rattle.lola_instances.specs.Stores.{bounded_seen, bounded_remembers};
 
-use crate::stage::{StorePhase, start_of, time_since};
+use crate::phase::{StorePhase, start_of, time_since};
 use crate::store::BoundedStore;
 
 /// Sets where time counts from.
@@ -17,7 +17,7 @@ pub fn start_at(s: &mut BoundedStore, start: u64)
     ensures seen { bounded_seen s.new ≡ after_start (bounded_seen s.old) start }
     ensures past { KeepsAll (bounded_remembers s.old) (bounded_remembers s.new) }
 {
-    s.stage = StorePhase::Started(start);
+    s.phase = StorePhase::Started(start);
 }
 
 /// Begins a step. What was this step's is an earlier value by the number of the step alone.
@@ -27,8 +27,8 @@ pub fn begin(s: &mut BoundedStore, time: u64)
     ensures past { (names : Naming) (n i : ℕ) (values : List (ℕ × Field)) → bounded_remembers s.old names n i values
         → bounded_remembers s.new names n i (values ++ one_more (time_seen (bounded_seen s.old)) (read_outcome names (now_seen (bounded_seen s.old) n i))) }
 {
-    let start = start_of(s.stage);
-    s.stage = StorePhase::Running(start, time);
+    let start = start_of(s.phase);
+    s.phase = StorePhase::Running(start, time);
     s.offset = time_since(start, time);
     s.prepared = false;
     s.step += 1;

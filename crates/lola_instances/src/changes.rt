@@ -7,10 +7,10 @@ ghost use Rattle.lola_value.specs.Naming.{Naming, IsHeld};
 ghost use Rattle.lola_model.specs.Reading.{KeepsAll, KeepsOthers};
 ghost use Rattle.lola_model.specs.Spawning.{has_room, spawn_end};
 ghost use Rattle.lola_model.specs.Store.{Fits, IsRunning, instances_seen, now_seen, is_silent, is_of_kind, kind_in, place_of, spawns_in, has_spawned, after_outcome, after_poison_stream, after_spawn, after_close};
-ghost use Rattle.lola_instances.specs.Stages.{time_in};
+ghost use Rattle.lola_instances.specs.Phases.{time_in};
 ghost use Rattle.lola_instances.specs.Stores.{bounded_seen, bounded_remembers};
 
-use crate::stage::{StorePhase, time_of};
+use crate::phase::{StorePhase, time_of};
 use crate::store::{BoundedStore, offset_of};
 use lola_model::store::SpawnEnd;
 use lola_value::brief::BriefValue;
@@ -71,10 +71,10 @@ pub fn close(s: &mut BoundedStore, stream: u32, index: u32)
 }
 
 /// When the instances are born that are born in this step.
-fn birth_time(stage: StorePhase) -> u64
-    ensures { result ≡ time_in stage }
+fn birth_time(phase: StorePhase) -> u64
+    ensures { result ≡ time_in phase }
 {
-    time_of(stage)
+    time_of(phase)
 }
 
 /// A new instance, if it does not live and there is room.
@@ -91,7 +91,7 @@ pub fn spawn(s: &mut BoundedStore, stream: u32, params: Params) -> SpawnEnd
 {
     let step = s.step;
     let offset = offset_of(s);
-    let time = birth_time(s.stage);
+    let time = birth_time(s.phase);
     let lives = &mut s.streams[stream as usize];
     lives.spawn(step, offset, time, params)
 }

@@ -16,6 +16,6 @@ mod reading;
 mod restoring;
 mod saved;
 pub mod shared;
-pub mod stage;
+pub mod phase;
 pub mod store;
 mod texts;

@@ -12,7 +12,7 @@ ghost use Rattle.lola_instances.specs.Stores.{bounded_seen, bounded_remembers};
 ghost use Rattle.lola_instances.specs.Streams.{crowd_layout};
 
 use crate::layout::{copy_kinds, copy_sizes, copy_windows, has_spawn, kept_at, locals_at};
-use crate::stage::StorePhase;
+use crate::phase::StorePhase;
 use crate::store::BoundedStore;
 use lola_instances_one::window::WindowPanes;
 use lola_instances_stream::instances::Instances;
@@ -209,7 +209,7 @@ impl BoundedStore {
         Ok(BoundedStore {
             windows,
             sizes,
-            stage: StorePhase::New,
+            phase: StorePhase::New,
             prepared: false,
             step: 1,
             offset: 0,

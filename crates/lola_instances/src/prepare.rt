@@ -8,7 +8,7 @@ ghost use Rattle.lola_instances.specs.Rooms.{AreKept, AreReady, IsReady};
 ghost use Rattle.lola_instances.specs.Stores.{bounded_seen, bounded_remembers};
 ghost use Rattle.lola_instances.specs.Streams.{crowd_layout};
 
-use crate::stage::time_of;
+use crate::phase::time_of;
 use crate::store::BoundedStore;
 use lola_instances_stream::instances::Instances;
 use lola_value::text::Memory;
@@ -56,7 +56,7 @@ pub fn prepare(s: &mut BoundedStore) -> Result<(), Memory>
     ensures past { KeepsAll (bounded_remembers s.old) (bounded_remembers s.new) }
     ensures plain { IsTrue (never_spawns (bounded_seen s.old).layout.streams) → IsOk result }
 {
-    let passed = time_of(s.stage);
+    let passed = time_of(s.phase);
     match make_all_ready(&mut s.streams, s.spawning.as_slice(), passed) {
         Err(memory) => Err(memory),
         Ok(()) => {

@@ -8,12 +8,12 @@ ghost use Rattle.lola_panes.specs.Restored.{first_offset};
 ghost use Rattle.lola_instances_one.specs.Holdings.{Holdings};
 ghost use Rattle.lola_instances_one.specs.Saved.{CanBeRestored};
 ghost use Rattle.lola_instances_stream.specs.Restoring.{HasOneMore};
-ghost use Rattle.lola_instances.specs.Restoring.{FollowsStart, HasPanesOf, IsInstanceChanged, after_restore, after_resume, newborn_in, resumed, spawned_in, stage_at, steps_at};
+ghost use Rattle.lola_instances.specs.Restoring.{FollowsStart, HasPanesOf, IsInstanceChanged, after_restore, after_resume, newborn_in, resumed, spawned_in, store_phase_at, steps_at};
 ghost use Rattle.lola_instances.specs.Saved.{instance_at, panes_at, places_in};
 ghost use Rattle.lola_instances.specs.Stores.{bounded_seen, bounded_remembers};
 
 use crate::reading::{place_of_panes, spec_of};
-use crate::stage::{StorePhase, start_of, time_of, time_since};
+use crate::phase::{StorePhase, start_of, time_of, time_since};
 use crate::store::{BoundedStore, offset_of};
 use lola_instances_stream::instances::Instances;
 use lola_panes::partial::Partial;
@@ -22,8 +22,8 @@ use lola_value::text::Memory;
 use lola_value::value::Params;
 
 // How far a store is where time counts from a start, and the last row came at a time.
-fn stage_of(start: Option<u64>, last: Option<u64>) -> StorePhase
-    ensures { result ≡ stage_at start last }
+fn store_phase_of(start: Option<u64>, last: Option<u64>) -> StorePhase
+    ensures { result ≡ store_phase_at start last }
 {
     match start {
         None => StorePhase::New,
@@ -77,11 +77,11 @@ impl BoundedStore {
         ensures slots { (n i : ℕ) → instance_at self.new n i ≡ instance_at self.old n i }
         ensures places { places_in self.new ≡ places_in self.old }
     {
-        let stage = stage_of(start, last);
+        let phase = store_phase_of(start, last);
         let step = step_of(last, steps);
         resume_streams(&mut self.streams, last, step);
-        self.offset = time_since(start_of(stage), time_of(stage));
-        self.stage = stage;
+        self.offset = time_since(start_of(phase), time_of(phase));
+        self.phase = phase;
         self.step = step;
     }
 

@@ -8,9 +8,9 @@ ghost use Rattle.lola_instances_stream.specs.Rights.{CrowdRight};
 ghost use Rattle.lola_instances.specs.Opening.{ArePlaces};
 ghost use Rattle.lola_instances.specs.Placed.{ArePlaced, AreCovered};
 ghost use Rattle.lola_instances.specs.Spawning.{AreNumbered};
-ghost use Rattle.lola_instances.specs.Stages.{is_on, start_in, time_in};
+ghost use Rattle.lola_instances.specs.Phases.{is_on, start_in, time_in};
 
-use crate::stage::StorePhase;
+use crate::phase::StorePhase;
 use lola_instances_stream::instances::Instances;
 use lola_model::plan::PaneSizes;
 use lola_model::spec::Windows;
@@ -20,7 +20,7 @@ use lola_model::spec::Windows;
 pub struct BoundedStore {
     pub(crate) windows: Windows,
     pub(crate) sizes: PaneSizes,
-    pub(crate) stage: StorePhase,
+    pub(crate) phase: StorePhase,
     pub(crate) prepared: bool,
     /// One more than the number of steps that began, so that no step has number 0.
     pub(crate) step: u64,
@@ -33,10 +33,10 @@ pub struct BoundedStore {
     pub(crate) spawning: Vec<usize>,
     ghost step_ge: { 1 ≤ step },
     ghost step_le: { step ≤ 2 ^ 63 + 1 },
-    ghost begun: { is_on stage ≡ true → 2 ≤ step },
-    ghost time_ge: { start_in stage ≤ time_in stage },
-    ghost offset_is: { offset ≡ time_in stage - start_in stage },
-    ghost right: { Each (CrowdRight (is_on stage) prepared step (time_in stage - start_in stage)) streams.items } by { Prim.hlevel (props, AllOf-prop, AllGiven-prop, AllPanesOf-prop) },
+    ghost begun: { is_on phase ≡ true → 2 ≤ step },
+    ghost time_ge: { start_in phase ≤ time_in phase },
+    ghost offset_is: { offset ≡ time_in phase - start_in phase },
+    ghost right: { Each (CrowdRight (is_on phase) prepared step (time_in phase - start_in phase)) streams.items } by { Prim.hlevel (props, AllOf-prop, AllGiven-prop, AllPanesOf-prop) },
     ghost placed: { ArePlaced windows sizes places.items streams.items },
     ghost at_places: { ArePlaces windows places.items },
     ghost covered: { AreCovered windows streams.items },
@@ -46,7 +46,7 @@ pub struct BoundedStore {
 /// How long after the start the time of this step is.
 #[inline(always)]
 pub(crate) fn offset_of(s: &BoundedStore) -> u64
-    ensures { result ≡ time_in s.now.stage - start_in s.now.stage }
+    ensures { result ≡ time_in s.now.phase - start_in s.now.phase }
 {
     s.offset
 }

@@ -7,7 +7,7 @@ use Rattle.lola_model.specs.Store.{Seen, SeenInstance, is_running, has_spawned, 
 use Rattle.lola_instances_one.specs.Holdings.{Holdings}
 use Rattle.lola_instances_stream.specs.Crowds.{RemembersAt}
 use Rattle.lola_instances.specs.Saved.{instance_at}
-use Rattle.lola_instances.specs.Stages.{start_in, time_in}
+use Rattle.lola_instances.specs.Phases.{start_in, time_in}
 use Rattle.lola_instances.specs.Stores.{bounded_remembers, bounded_seen}
 use Rattle.lola_instances.specs.declared.store.BoundedStore.{BoundedStore}
 use Rattle.lola_save_text.specs.declared.forms.StreamForm.{StreamForm}
@@ -60,7 +60,7 @@ remembers-stays old new n i on stays names values h = by (instance_at old n i) r
     by None at h = absurd (none at h)
       where
         none : instance_at old n i ≡ None → bounded_remembers old names n i values → ⊥
-        none at h = subst (λ (o : Option Holdings). RemembersAt (start_in old.stage) (time_in old.stage) old.step names o values) at h
+        none at h = subst (λ (o : Option Holdings). RemembersAt (start_in old.phase) (time_in old.phase) old.step names o values) at h
     by (Some y) at h = remembers-same old new n i on.phase on.steps (stays y at ∙ sym at) names values h
 
 pub loaded-stays : (times : Times) (names more : Naming) (old new : BoundedStore) (n i : ℕ) (form : StreamForm) (a : SavedInstance) → GoesOn old new

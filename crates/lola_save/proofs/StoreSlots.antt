@@ -17,7 +17,7 @@ use Rattle.lola_instances_stream.specs.Crowds.{Crowd, RemembersAt, crowd_seen}
 use Rattle.lola_instances.proofs.Phases.{phase_start, phase_time}
 use Rattle.lola_instances.specs.Placed.{IsPaneOf}
 use Rattle.lola_instances.specs.Saved.{instance_at, panes_at, partials_of, places_in}
-use Rattle.lola_instances.specs.Stages.{start_in, time_in}
+use Rattle.lola_instances.specs.Phases.{start_in, time_in}
 use Rattle.lola_instances.specs.Stores.{bounded_remembers, bounded_seen}
 use Rattle.lola_instances.specs.Streams.{crowd_layout, slots_in}
 use Rattle.lola_instances.specs.declared.store.BoundedStore.{BoundedStore}
@@ -62,8 +62,8 @@ pub remembers-same : (old new : BoundedStore) (n i : ℕ) → (bounded_seen new)
     → (names : Naming) (values : List (ℕ × Field)) → bounded_remembers old names n i values → bounded_remembers new names n i values
 unfolding start_at time_at
 remembers-same old new n i phase steps same names values h =
-    let start : start_in old.stage ≡ start_in new.stage = sym (phase_start old.stage) ∙ ap start_at (sym phase) ∙ phase_start new.stage in
-    let time : time_in old.stage ≡ time_in new.stage = sym (phase_time old.stage) ∙ ap time_at (sym phase) ∙ phase_time new.stage in
+    let start : start_in old.phase ≡ start_in new.phase = sym (phase_start old.phase) ∙ ap start_at (sym phase) ∙ phase_start new.phase in
+    let time : time_in old.phase ≡ time_in new.phase = sym (phase_time old.phase) ∙ ap time_at (sym phase) ∙ phase_time new.phase in
     let step : old.step ≡ new.step = omega (arith, steps, old.step_ge, new.step_ge) in
     subst (λ t. t) (λ j. RemembersAt (start j) (time j) (step j) names (sym same j) values) h
 

@@ -10,7 +10,7 @@ use Rattle.lola_store.specs.declared.population.Population.{Population}
 use Rattle.lola_store.specs.declared.store.WholeStore.{WholeStore}
 use Rattle.lola_store.specs.Instances.{shown, InstanceRight}
 use Rattle.lola_store.specs.Populations.{population_layout, instance_at}
-use Rattle.lola_instances.specs.Stages.{is_on}
+use Rattle.lola_instances.specs.Phases.{is_on}
 use Rattle.lola_store.specs.Stores.{whole_seen}
 use Rattle.lola_store.proofs.Places.{outcome_at, outcome_shows, layout_at, right_at}
 
@@ -27,7 +27,7 @@ pub record Owned (s : WholeStore) (n : ℕ) (x : Instance) : Type 0 where
   pub parameters : List Kind
   pub kind_is : kind_in (slice_get (map population_layout s.streams.items) n) ≡ kind
   pub parameters_is : parameters_of (slice_get (map population_layout s.streams.items) n) ≡ parameters
-  pub right : InstanceRight kind parameters (is_on s.stage) s.prepared s.step x
+  pub right : InstanceRight kind parameters (is_on s.phase) s.prepared s.step x
 
 abbrev pub owned : (s : WholeStore) (n i : ℕ) (x : Instance) → instance_at s.streams.items n i ≡ Some x → Owned s n x
 owned s n i x e =
@@ -38,12 +38,12 @@ owned s n i x e =
       parameters = o.0.parameters;
       kind_is = ap kind_in at;
       parameters_is = ap parameters_of at;
-      right = right_at (is_on s.stage) s.prepared s.step s.streams.items n i o.0 x s.right o.1 e;
+      right = right_at (is_on s.phase) s.prepared s.step s.streams.items n i o.0 x s.right o.1 e;
     }
 
 -- an answer of an instance is of its stream's kind
 pub of_kind : (s : WholeStore) (n i : ℕ) (x : Instance) (r : Outcome) → instance_at s.streams.items n i ≡ Some x
-    → ((k : Kind) (ps : List Kind) → InstanceRight k ps (is_on s.stage) s.prepared s.step x → IsTrue (is_outcome_of k r)) → IsTrue (is_outcome_of (kind_in (slice_get (map population_layout s.streams.items) n)) r)
+    → ((k : Kind) (ps : List Kind) → InstanceRight k ps (is_on s.phase) s.prepared s.step x → IsTrue (is_outcome_of k r)) → IsTrue (is_outcome_of (kind_in (slice_get (map population_layout s.streams.items) n)) r)
 of_kind s n i x r e f =
     let o = owned s n i x e in
     subst (λ (k : Kind). IsTrue (is_outcome_of k r)) (sym o.kind_is) (f o.kind o.parameters o.right)

@@ -13,7 +13,7 @@ use Rattle.lola_store.specs.declared.population.Population.{Population}
 use Rattle.lola_store.specs.declared.store.WholeStore.{WholeStore}
 use Rattle.lola_store.specs.Instances.{shown, instance_seen, AllHeld, RecallsAt}
 use Rattle.lola_store.specs.Populations.{population_seen, instance_at}
-use Rattle.lola_instances.specs.Stages.{time_in}
+use Rattle.lola_instances.specs.Phases.{time_in}
 use Rattle.lola_store.specs.Stores.{whole_seen, whole_remembers}
 use Rattle.lola_store.specs.Tallies.{read_timed}
 use Rattle.lola_store.specs.Texts.{items_of, instance_texts, population_texts, whole_texts}
@@ -114,5 +114,5 @@ whole_shows s n i x e = streams_show s.step s.streams.items n i x e
 pub whole_kept : (s : WholeStore) (names fewer : Naming) (n i : ℕ) (values : List (ℕ × Field)) → KeepsTexts (whole_texts s) names fewer → whole_remembers s names n i values
     → whole_remembers s fewer n i values
 whole_kept s names fewer n i values k h =
-    recalls_kept (time_in s.stage) s.step names fewer (instance_at s.streams.items n i) values
+    recalls_kept (time_in s.phase) s.step names fewer (instance_at s.streams.items n i) values
     (λ x e. keeps_within (instance_texts s.step x) (whole_texts s) names fewer (instance_within s.step s.streams.items n i x e) k) h

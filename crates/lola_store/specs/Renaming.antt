@@ -14,7 +14,7 @@ use Rattle.lola_store.specs.declared.instance.Instance.{Instance}
 use Rattle.lola_store.specs.declared.store.WholeStore.{WholeStore}
 use Rattle.lola_store.specs.Instances.{shown, AllHeld, RecallsAt}
 use Rattle.lola_store.specs.Populations.{instance_at}
-use Rattle.lola_instances.specs.Stages.{time_in}
+use Rattle.lola_instances.specs.Phases.{time_in}
 use Rattle.lola_store.specs.Stores.{whole_remembers}
 use Rattle.lola_store.specs.Tallies.{read_timed}
 
@@ -59,4 +59,4 @@ module _ (names more : Naming) (k : IsHeldBy names more) where
       }
 
 pub whole_renamed : (s : WholeStore) (names more : Naming) (n i : ℕ) (values : List (ℕ × Field)) → IsHeldBy names more → whole_remembers s names n i values → whole_remembers s more n i values
-whole_renamed s names more n i values k h = recalls names more k (time_in s.stage) s.step (instance_at s.streams.items n i) values h
+whole_renamed s names more n i values k h = recalls names more k (time_in s.phase) s.step (instance_at s.streams.items n i) values h

@@ -6,14 +6,14 @@ use Rattle.lola_model.specs.Store.{Seen}
 use Rattle.lola_store.specs.declared.store.WholeStore.{WholeStore}
 use Rattle.lola_store.specs.Instances.{RecallsAt}
 use Rattle.lola_store.specs.Populations.{population_layout, population_seen, instance_at}
-use Rattle.lola_instances.specs.Stages.{phase_in, time_in}
+use Rattle.lola_instances.specs.Phases.{phase_in, time_in}
 
 -- what it shows
 abbrev pub whole_seen : WholeStore → Seen
 whole_seen s =
     record {
       layout = record { streams = map population_layout s.streams.items; windows = s.windows; panes = s.sizes };
-      phase = phase_in s.stage;
+      phase = phase_in s.phase;
       prepared = s.prepared;
       steps = s.step - 1;
       streams = map (population_seen s.step) s.streams.items;
@@ -21,4 +21,4 @@ whole_seen s =
 
 -- the one list that it remembers for an instance: all its values, read through a naming that has their texts
 abbrev pub whole_remembers : WholeStore → Naming → ℕ → ℕ → List (ℕ × Field) → Type 0
-whole_remembers s names n i values = RecallsAt (time_in s.stage) s.step names (instance_at s.streams.items n i) values
+whole_remembers s names n i values = RecallsAt (time_in s.phase) s.step names (instance_at s.streams.items n i) values

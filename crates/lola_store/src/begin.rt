@@ -9,7 +9,7 @@ ghost use Rattle.lola_model.specs.Store.{IsNew, CanBegin, after_start, after_beg
 ghost use Rattle.lola_store.specs.Stores.{whole_seen, whole_remembers};
 
 use crate::store::WholeStore;
-use lola_instances::stage::{StorePhase, start_of};
+use lola_instances::phase::{StorePhase, start_of};
 
 /// Sets where time counts from.
 pub fn start_at(s: &mut WholeStore, start: u64)
@@ -17,7 +17,7 @@ pub fn start_at(s: &mut WholeStore, start: u64)
     ensures seen { whole_seen s.new ≡ after_start (whole_seen s.old) start }
     ensures past { KeepsAll (whole_remembers s.old) (whole_remembers s.new) }
 {
-    s.stage = StorePhase::Started(start);
+    s.phase = StorePhase::Started(start);
 }
 
 /// Begins a step. What was this step's is an earlier value by the number of the step alone.
@@ -27,7 +27,7 @@ pub fn begin(s: &mut WholeStore, time: u64)
     ensures past { (names : Naming) (n i : ℕ) (values : List (ℕ × Field)) → whole_remembers s.old names n i values
         → whole_remembers s.new names n i (values ++ one_more (time_seen (whole_seen s.old)) (read_outcome names (now_seen (whole_seen s.old) n i))) }
 {
-    s.stage = StorePhase::Running(start_of(s.stage), time);
+    s.phase = StorePhase::Running(start_of(s.phase), time);
     s.prepared = false;
     s.step += 1;
 }

@@ -15,7 +15,7 @@ use crate::instance::Instance;
 use crate::population::Population;
 use crate::reading::{found, instances};
 use crate::store::WholeStore;
-use lola_instances::stage::time_of;
+use lola_instances::phase::time_of;
 use lola_model::store::SpawnEnd;
 use lola_value::value::{Outcome, Params, Value};
 
@@ -29,7 +29,7 @@ pub fn push(s: &mut WholeStore, stream: u32, index: u32, value: Value)
     ensures past { (names : Naming) (n i : ℕ) (values : List (ℕ × Field)) → IsHeld names value
         → whole_remembers s.old names n i values → whole_remembers s.new names n i values }
 {
-    let time = time_of(s.stage);
+    let time = time_of(s.phase);
     let step = s.step;
     let population = &mut s.streams[stream as usize];
     let life = &mut population.lives[index as usize];
@@ -96,7 +96,7 @@ fn bear(population: &mut Population, step: u64, time: u64, params: Params)
 fn birth(s: &WholeStore) -> u64
     ensures { result ≡ time_seen (whole_seen s.now) }
 {
-    time_of(s.stage)
+    time_of(s.phase)
 }
 
 /// An instance is born at the time of this step. It does not live yet, and there is room.

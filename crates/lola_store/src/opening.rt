@@ -13,7 +13,7 @@ use crate::instance::Instance;
 use crate::population::Population;
 use crate::store::WholeStore;
 use lola_instances::layout::{copy_kinds, copy_sizes, copy_windows, has_spawn, kept_at, locals_at};
-use lola_instances::stage::StorePhase;
+use lola_instances::phase::StorePhase;
 use lola_model::pacing::ClausePacings;
 use lola_model::plan::Plan;
 use lola_model::spec::Stream;
@@ -110,7 +110,7 @@ impl WholeStore {
             alloc,
             windows,
             sizes,
-            stage: StorePhase::New,
+            phase: StorePhase::New,
             prepared: false,
             step: 1,
             streams,

@@ -16,7 +16,7 @@ use crate::instance::Instance;
 use crate::population::place;
 use crate::store::WholeStore;
 use crate::tally::aggregate;
-use lola_instances::stage::{start_of, time_of};
+use lola_instances::phase::{start_of, time_of};
 use lola_model::spec::WindowSpec;
 use lola_value::value::{Outcome, Params};
 
@@ -153,7 +153,7 @@ fn folded(s: &WholeStore, w: &WindowSpec, params: &Params) -> Outcome
         → read_outcome names result ≡ aggregated w.now.using (kind_in (slice_get (whole_seen s.now).layout.streams w.now.target)) (values_within w.now.over (time_seen (whole_seen s.now)) (values ++ one_more (time_seen (whole_seen s.now)) (read_outcome names (now_of (whole_seen s.now) w.now.target params.now))))) }
     ensures kind { IsTrue (is_outcome_of (gives_kind w.now.using (kind_in (slice_get (whole_seen s.now).layout.streams w.now.target))) result) }
 {
-    let time = time_of(s.stage);
+    let time = time_of(s.phase);
     let kind = s.streams[w.target as usize].kind;
     match found(s, w.target, params) {
         None => aggregate(&[], w.using, kind, w.over, time),
@@ -178,7 +178,7 @@ fn answered(s: &WholeStore, w: &WindowSpec, params: &Params) -> Outcome
     if spoils(now(s, w.target, params)) {
         return Outcome::Poison;
     }
-    if is_early(w.exact, start_of(s.stage), w.over, time_of(s.stage)) {
+    if is_early(w.exact, start_of(s.phase), w.over, time_of(s.phase)) {
         return Outcome::Missing;
     }
     folded(s, w, params)

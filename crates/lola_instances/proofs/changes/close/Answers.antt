@@ -5,7 +5,7 @@ use Rattle.lola_instances_one.specs.Holdings.{slot_seen}
 use Rattle.lola_instances_stream.specs.Crowds.{Crowd, RemembersAt}
 use Rattle.lola_instances_stream.specs.Rights.{CrowdRight, SlotRight}
 use Rattle.lola_instances_stream.proofs.Lists.{each-set, each-remove, remove_before, remove_after, remove_length, remove_map}
-use Rattle.lola_instances.specs.Stages.{phase_in, start_in, time_in, is_on}
+use Rattle.lola_instances.specs.Phases.{phase_in, start_in, time_in, is_on}
 use Rattle.lola_instances.proofs.Asking.{found_stream, index_is}
 use Rattle.lola_instances.proofs.Changing.{layout_set, changed_set, placed_set, numbered_set, covered_set, past_remove, slots_right, slots_seen}
 use Rattle.lola_instances.proofs.changes.close.Goals as goal
@@ -26,7 +26,7 @@ invariant_of-s c =
     let q = c.close.ensures in
     let e = found_stream s.step s.streams.items n c.args.index l c.requires.index c.index_mut-lives.ensures.value in
     let p = s.right n l e in
-    let off = time_in s.stage - start_in s.stage in
+    let off = time_in s.phase - start_in s.phase in
     let k : Crowd = record l { slots = remove l.slots c.args.index } in
     record {
       step_ge = s.step_ge;
@@ -34,10 +34,10 @@ invariant_of-s c =
       begun = s.begun;
       time_ge = s.time_ge;
       offset_is = s.offset_is;
-      right = each-set (CrowdRight (is_on s.stage) s.prepared s.step off) s.streams.items n y s.right
-          (subst (CrowdRight (is_on s.stage) s.prepared s.step off) (sym q)
-          (slots_right (is_on s.stage) s.prepared s.step off l k p refl (remove_length l.slots c.args.index)
-          (each-remove (SlotRight l.layout l.windows (is_on s.stage) s.step off) l.slots c.args.index p.each)));
+      right = each-set (CrowdRight (is_on s.phase) s.prepared s.step off) s.streams.items n y s.right
+          (subst (CrowdRight (is_on s.phase) s.prepared s.step off) (sym q)
+          (slots_right (is_on s.phase) s.prepared s.step off l k p refl (remove_length l.slots c.args.index)
+          (each-remove (SlotRight l.layout l.windows (is_on s.phase) s.step off) l.slots c.args.index p.each)));
       placed = placed_set s.windows s.sizes s.places.items s.streams.items n l y e (ap (λ (z : Crowd). z.layout) q) (ap (λ (z : Crowd). z.windows) q) s.placed;
       at_places = s.at_places;
       covered = covered_set s.windows s.streams.items n l y e (ap (λ (z : Crowd). z.windows) q) s.covered;
@@ -59,7 +59,7 @@ returns-clause-seen c =
     (slots_seen s.step l y (λ xs. remove xs c.args.index) rest inner) in
     λ i. record {
       layout = record { streams = lay i; windows = s.windows; panes = s.sizes };
-      phase = phase_in s.stage;
+      phase = phase_in s.phase;
       prepared = s.prepared;
       steps = s.step - 1;
       streams = all i;
@@ -73,6 +73,6 @@ returns-clause-past c = λ names m j values h.
     let y = c.close.new.self in
     let g = ap (λ (z : Crowd). z.slots) c.close.ensures in
     let e = found_stream s.step s.streams.items n c.args.index l c.requires.index c.index_mut-lives.ensures.value in
-    past_remove (λ o. RemembersAt (start_in s.stage) (time_in s.stage) s.step names o values) s.streams.items n l y e c.args.index m j
+    past_remove (λ o. RemembersAt (start_in s.phase) (time_in s.phase) s.step names o values) s.streams.items n l y e c.args.index m j
     (λ q b. ap (λ xs. slice_get xs q) g ∙ remove_before l.slots c.args.index q b)
     (λ q b. ap (λ xs. slice_get xs q) g ∙ (remove_after l.slots c.args.index q b ∙ ap (slice_get l.slots) (sym (add-one q)))) h

@@ -4,7 +4,7 @@ use Rattle.lola_model.specs.Store.{SeenStream, told_at}
 use Rattle.lola_instances_stream.specs.Crowds.{Crowd, RemembersAt}
 use Rattle.lola_instances_stream.specs.Rights.{AreRight, CrowdRight}
 use Rattle.lola_instances_stream.proofs.Lists.{each-set}
-use Rattle.lola_instances.specs.Stages.{phase_in, start_in, time_in, is_on}
+use Rattle.lola_instances.specs.Phases.{phase_in, start_in, time_in, is_on}
 use Rattle.lola_instances.proofs.Asking.{found_stream, index_is}
 use Rattle.lola_instances.proofs.Changing.{silent_in, layout_set, changed_set, placed_set, numbered_set, covered_set, past_set, slots_right, slots_seen}
 use Rattle.lola_instances.proofs.Phases.{running_is_on}
@@ -30,7 +30,7 @@ poison-requires-clause-right c =
     let l = c.index_mut-lives.result.now in
     let e = found_stream s.step s.streams.items c.args.stream c.args.index l c.requires.index c.index_mut-lives.ensures.value in
     subst (λ (n : ℕ). AreRight true s.step n l) (sym c.offset_of-offset.ensures)
-    (subst (λ (b : Bool). AreRight b s.step (time_in s.stage - start_in s.stage) l) (running_is_on s.stage c.requires.running) (s.right c.args.stream l e).each)
+    (subst (λ (b : Bool). AreRight b s.step (time_in s.phase - start_in s.phase) l) (running_is_on s.phase c.requires.running) (s.right c.args.stream l e).each)
 
 pub invariant_of-s : goal.invariant_of-s
 invariant_of-s c =
@@ -39,18 +39,18 @@ invariant_of-s c =
     let l = c.index_mut-lives.result.now in
     let y = c.poison.new.self in
     let e = found_stream s.step s.streams.items n c.args.index l c.requires.index c.index_mut-lives.ensures.value in
-    let on = running_is_on s.stage c.requires.running in
+    let on = running_is_on s.phase c.requires.running in
     let rest = c.poison.ensures.rest in
     let count = c.poison.ensures.count in
-    let right = subst (λ (b : Bool). AreRight b s.step (time_in s.stage - start_in s.stage) y) (sym on) (subst (λ (n : ℕ). AreRight true s.step n y) c.offset_of-offset.ensures c.poison.ensures.right) in
+    let right = subst (λ (b : Bool). AreRight b s.step (time_in s.phase - start_in s.phase) y) (sym on) (subst (λ (n : ℕ). AreRight true s.step n y) c.offset_of-offset.ensures c.poison.ensures.right) in
     record {
       step_ge = s.step_ge;
       step_le = s.step_le;
       begun = s.begun;
       time_ge = s.time_ge;
       offset_is = s.offset_is;
-      right = each-set (CrowdRight (is_on s.stage) s.prepared s.step (time_in s.stage - start_in s.stage)) s.streams.items n y s.right
-          (slots_right (is_on s.stage) s.prepared s.step (time_in s.stage - start_in s.stage) l y (s.right n l e) rest (omega arith) right);
+      right = each-set (CrowdRight (is_on s.phase) s.prepared s.step (time_in s.phase - start_in s.phase)) s.streams.items n y s.right
+          (slots_right (is_on s.phase) s.prepared s.step (time_in s.phase - start_in s.phase) l y (s.right n l e) rest (omega arith) right);
       placed = placed_set s.windows s.sizes s.places.items s.streams.items n l y e (ap (λ (z : Crowd). z.layout) rest) (ap (λ (z : Crowd). z.windows) rest) s.placed;
       at_places = s.at_places;
       covered = covered_set s.windows s.streams.items n l y e (ap (λ (z : Crowd). z.windows) rest) s.covered;
@@ -70,7 +70,7 @@ returns-clause-seen c =
     (slots_seen s.step l y (λ xs. told_at xs c.args.index outcome.Poison) rest c.poison.ensures.seen) in
     λ i. record {
       layout = record { streams = lay i; windows = s.windows; panes = s.sizes };
-      phase = phase_in s.stage;
+      phase = phase_in s.phase;
       prepared = s.prepared;
       steps = s.step - 1;
       streams = all i;
@@ -83,6 +83,6 @@ returns-clause-past c = λ names m j values h.
     let l = c.index_mut-lives.result.now in
     let y = c.poison.new.self in
     let e = found_stream s.step s.streams.items n c.args.index l c.requires.index c.index_mut-lives.ensures.value in
-    let off : c.offset_of-offset.result ≡ time_in s.stage - start_in s.stage = c.offset_of-offset.ensures in
-    past_set (λ o. RemembersAt (start_in s.stage) (time_in s.stage) s.step names o values) s.streams.items n l y e m j
-    (c.poison.ensures.past (start_in s.stage) (time_in s.stage) names j values) h
+    let off : c.offset_of-offset.result ≡ time_in s.phase - start_in s.phase = c.offset_of-offset.ensures in
+    past_set (λ o. RemembersAt (start_in s.phase) (time_in s.phase) s.step names o values) s.streams.items n l y e m j
+    (c.poison.ensures.past (start_in s.phase) (time_in s.phase) names j values) h

@@ -5,7 +5,7 @@ use Rattle.lola_instances_stream.specs.Crowds.{Crowd, crowd_seen, RemembersAt}
 use Rattle.lola_instances_stream.specs.Rights.{CrowdRight}
 use Rattle.lola_instances_stream.proofs.Lists.{each-set}
 use Rattle.std.proofs.Common.{ap, ◌∙◌, subst}
-use Rattle.lola_instances.specs.Stages.{phase_in, start_in, time_in, is_on}
+use Rattle.lola_instances.specs.Phases.{phase_in, start_in, time_in, is_on}
 use Rattle.lola_instances.proofs.Asking.{stream_read}
 use Rattle.lola_instances.proofs.Changing.{layout_set, changed_set, placed_set, numbered_set, covered_set, past_set}
 use Rattle.lola_instances.proofs.changes.poison_stream.Goals as goal
@@ -25,8 +25,8 @@ invariant_of-s c =
       begun = s.begun;
       time_ge = s.time_ge;
       offset_is = s.offset_is;
-      right = each-set (CrowdRight (is_on s.stage) s.prepared s.step (time_in s.stage - start_in s.stage)) s.streams.items n y s.right
-          (subst (CrowdRight (is_on s.stage) s.prepared s.step (time_in s.stage - start_in s.stage)) (sym q)
+      right = each-set (CrowdRight (is_on s.phase) s.prepared s.step (time_in s.phase - start_in s.phase)) s.streams.items n y s.right
+          (subst (CrowdRight (is_on s.phase) s.prepared s.step (time_in s.phase - start_in s.phase)) (sym q)
           (record { bad_le = omega arith; spawned_le = p.spawned_le; kept = p.kept; few = p.few; each = p.each; room = p.room; spares = p.spares }));
       placed = placed_set s.windows s.sizes s.places.items s.streams.items n l y e (ap (λ (z : Crowd). z.layout) q) (ap (λ (z : Crowd). z.windows) q) s.placed;
       at_places = s.at_places;
@@ -48,7 +48,7 @@ returns-clause-seen c =
     (ap (crowd_seen s.step) q ∙ (λ j. record { bad = b j; spawned = nat_eq l.spawned_at s.step; instances = map (slot_seen s.step) l.slots })) in
     λ i. record {
       layout = record { streams = lay i; windows = s.windows; panes = s.sizes };
-      phase = phase_in s.stage;
+      phase = phase_in s.phase;
       prepared = s.prepared;
       steps = s.step - 1;
       streams = all i;
@@ -62,5 +62,5 @@ returns-clause-past c = λ names m j values h.
     let y = c.poison_stream.new.self in
     let q = c.poison_stream.ensures in
     let e = stream_read s.streams.items n l c.requires.stream c.index_mut-lives.ensures.value in
-    past_set (λ o. RemembersAt (start_in s.stage) (time_in s.stage) s.step names o values) s.streams.items n l y e m j
-    (λ r. subst (λ (z : Crowd). RemembersAt (start_in s.stage) (time_in s.stage) s.step names (slice_get z.slots j) values) (sym q) r) h
+    past_set (λ o. RemembersAt (start_in s.phase) (time_in s.phase) s.step names o values) s.streams.items n l y e m j
+    (λ r. subst (λ (z : Crowd). RemembersAt (start_in s.phase) (time_in s.phase) s.step names (slice_get z.slots j) values) (sym q) r) h

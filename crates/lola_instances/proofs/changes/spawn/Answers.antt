@@ -9,7 +9,7 @@ use Rattle.lola_instances_stream.specs.Births.{newborn}
 use Rattle.lola_instances_stream.specs.Crowds.{RemembersAt, place_in}
 use Rattle.lola_instances_stream.specs.Rights.{AreRight, CrowdRight}
 use Rattle.lola_instances_stream.proofs.Lists.{each-set, same_set}
-use Rattle.lola_instances.specs.Stages.{phase_in, start_in, time_in, is_on}
+use Rattle.lola_instances.specs.Phases.{phase_in, start_in, time_in, is_on}
 use Rattle.lola_instances.specs.Stores.{bounded_seen}
 use Rattle.lola_instances.specs.Streams.{slots_in, slot_at}
 use Rattle.lola_instances.proofs.Asking.{stream_read, layout_at, place_is, count_is}
@@ -32,7 +32,7 @@ spawn-requires-clause-room c =
     let n = c.args.stream in
     let l = c.index_mut-lives.result.now in
     let e = stream_read s.streams.items n l c.requires.fits.stream c.index_mut-lives.ensures.value in
-    let o = owed_some s.prepared (is_on s.stage) s.step l.spawned_at (running_is_on s.stage c.requires.running) (unspawned s.step s.streams.items n l e c.requires.first) in
+    let o = owed_some s.prepared (is_on s.phase) s.step l.spawned_at (running_is_on s.phase c.requires.running) (unspawned s.step s.streams.items n l e c.requires.first) in
     omega (arith, (s.right n l e).room (spawns_at s.streams.items n l e c.requires.spawns), o)
 
 pub spawn-requires-clause-spare : goal.spawn-requires-clause-spare
@@ -41,7 +41,7 @@ spawn-requires-clause-spare c =
     let n = c.args.stream in
     let l = c.index_mut-lives.result.now in
     let e = stream_read s.streams.items n l c.requires.fits.stream c.index_mut-lives.ensures.value in
-    let o = owed_some s.prepared (is_on s.stage) s.step l.spawned_at (running_is_on s.stage c.requires.running) (unspawned s.step s.streams.items n l e c.requires.first) in
+    let o = owed_some s.prepared (is_on s.phase) s.step l.spawned_at (running_is_on s.phase c.requires.running) (unspawned s.step s.streams.items n l e c.requires.first) in
     omega (arith, (s.right n l e).spares (spawns_at s.streams.items n l e c.requires.spawns), o)
 
 pub spawn-requires-clause-right : goal.spawn-requires-clause-right
@@ -50,7 +50,7 @@ spawn-requires-clause-right c =
     let l = c.index_mut-lives.result.now in
     let e = stream_read s.streams.items c.args.stream l c.requires.fits.stream c.index_mut-lives.ensures.value in
     subst (λ (n : ℕ). AreRight true s.step n l) (sym c.offset_of-offset.ensures)
-    (subst (λ (b : Bool). AreRight b s.step (time_in s.stage - start_in s.stage) l) (running_is_on s.stage c.requires.running) (s.right c.args.stream l e).each)
+    (subst (λ (b : Bool). AreRight b s.step (time_in s.phase - start_in s.phase) l) (running_is_on s.phase c.requires.running) (s.right c.args.stream l e).each)
 
 pub invariant_of-s : goal.invariant_of-s
 invariant_of-s c =
@@ -60,8 +60,8 @@ invariant_of-s c =
     let y = c.spawn.new.self in
     let q = c.spawn.ensures in
     let e = stream_read s.streams.items n l c.requires.fits.stream c.index_mut-lives.ensures.value in
-    let on = running_is_on s.stage c.requires.running in
-    let off = time_in s.stage - start_in s.stage in
+    let on = running_is_on s.phase c.requires.running in
+    let off = time_in s.phase - start_in s.phase in
     let o = place_in c.args.params l.slots 0 in
     let b = has_room o (length l.slots) in
     let right = subst (λ (b : Bool). AreRight b s.step off y) (sym on) (subst (λ (n : ℕ). AreRight true s.step n y) c.offset_of-offset.ensures q.right) in
@@ -71,8 +71,8 @@ invariant_of-s c =
       begun = s.begun;
       time_ge = s.time_ge;
       offset_is = s.offset_is;
-      right = each-set (CrowdRight (is_on s.stage) s.prepared s.step off) s.streams.items n y s.right
-          (spawn_right (is_on s.stage) s.prepared s.step off l y c.birth_time-time.result c.args.params b (s.right n l e) o refl on (unspawned s.step s.streams.items n l e c.requires.first) q.living q.born q.spares right);
+      right = each-set (CrowdRight (is_on s.phase) s.prepared s.step off) s.streams.items n y s.right
+          (spawn_right (is_on s.phase) s.prepared s.step off l y c.birth_time-time.result c.args.params b (s.right n l e) o refl on (unspawned s.step s.streams.items n l e c.requires.first) q.living q.born q.spares right);
       placed = placed_set s.windows s.sizes s.places.items s.streams.items n l y e (spawn_layout s.step l y c.birth_time-time.result c.args.params b q.living q.born) (spawn_windows s.step l y c.birth_time-time.result c.args.params b q.living q.born) s.placed;
       at_places = s.at_places;
       covered = covered_set s.windows s.streams.items n l y e (spawn_windows s.step l y c.birth_time-time.result c.args.params b q.living q.born) s.covered;
@@ -98,13 +98,13 @@ returns-clause-seen c =
     let e = stream_read s.streams.items n l c.requires.fits.stream c.index_mut-lives.ensures.value in
     let b = has_room (place_in p l.slots 0) (length l.slots) in
     let lay = layout_set s.streams.items n l y e (spawn_layout s.step l y c.birth_time-time.result p b q.living q.born) in
-    let now : c.birth_time-time.result ≡ time_seen (bounded_seen s) = c.birth_time-time.ensures ∙ sym (phase_time s.stage) in
+    let now : c.birth_time-time.result ≡ time_seen (bounded_seen s) = c.birth_time-time.ensures ∙ sym (phase_time s.phase) in
     let born = subst (λ (t : ℕ). IsTrue b → y ≡ record l { spawned_at = s.step; slots = l.slots ++ newborn l.layout.kept l.windows t p ∷ []; spares = y.spares }) now q.born in
     let all = spawn_seen s.step s.streams.items n l y (time_seen (bounded_seen s)) p b e s.step_ge q.living born in
     let room : b ≡ has_room (place_of (bounded_seen s) n p) (length (instances_seen (bounded_seen s) n)) = λ j. has_room (sym (place_is s n l p e) j) (sym (count_is s.step s.streams.items n l e) j) in
     (λ i. record {
       layout = record { streams = lay i; windows = s.windows; panes = s.sizes };
-      phase = phase_in s.stage;
+      phase = phase_in s.phase;
       prepared = s.prepared;
       steps = s.step - 1;
       streams = all i;
@@ -123,8 +123,8 @@ returns-clause-past c = λ names m j values h.
     let l = c.index_mut-lives.result.now in
     let y = c.spawn.new.self in
     let e = stream_read s.streams.items n l c.requires.fits.stream c.index_mut-lives.ensures.value in
-    past_set (λ o. RemembersAt (start_in s.stage) (time_in s.stage) s.step names o values) s.streams.items n l y e m j
-    (c.spawn.ensures.past (start_in s.stage) (time_in s.stage) names j values) h
+    past_set (λ o. RemembersAt (start_in s.phase) (time_in s.phase) s.step names o values) s.streams.items n l y e m j
+    (c.spawn.ensures.past (start_in s.phase) (time_in s.phase) names j values) h
 
 pub returns-clause-new : goal.returns-clause-new
 returns-clause-new c = λ names room.
@@ -137,5 +137,5 @@ returns-clause-new c = λ names room.
     let k = count_is s.step s.streams.items n l e in
     let at : slot_at (slice_set s.streams.items n y) n (length (instances_seen (bounded_seen s) n)) ≡ slice_get y.slots (length l.slots) =
     ap (λ o. slice_get (slots_in o) (length (instances_seen (bounded_seen s) n))) (same_set s.streams.items n l y e) ∙ ap (slice_get y.slots) k in
-    subst (λ (o : Option Holdings). RemembersAt (start_in s.stage) (time_in s.stage) s.step names o []) (sym at)
-    (c.spawn.ensures.new (subst (λ (b : Bool). IsTrue b) (λ j. has_room (place_is s n l p e j) (k j)) room) (start_in s.stage) (time_in s.stage) names)
+    subst (λ (o : Option Holdings). RemembersAt (start_in s.phase) (time_in s.phase) s.step names o []) (sym at)
+    (c.spawn.ensures.new (subst (λ (b : Bool). IsTrue b) (λ j. has_room (place_is s n l p e j) (k j)) room) (start_in s.phase) (time_in s.phase) names)

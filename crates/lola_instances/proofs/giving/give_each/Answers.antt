@@ -4,7 +4,7 @@ use Rattle.lola_model.specs.Store.{SeenStream, StreamLayout, kind_in}
 use Rattle.lola_instances_stream.specs.Crowds.{Crowd, RemembersAt}
 use Rattle.lola_instances_stream.specs.Rights.{AreRight, CrowdRight}
 use Rattle.lola_instances_stream.proofs.Lists.{each-set}
-use Rattle.lola_instances.specs.Stages.{phase_in, start_in, time_in, is_on}
+use Rattle.lola_instances.specs.Phases.{phase_in, start_in, time_in, is_on}
 use Rattle.lola_instances.specs.Streams.{slots_in}
 use Rattle.lola_instances.proofs.Asking.{layout_at, slots_count, stream_read}
 use Rattle.lola_instances.proofs.Changing.{silent_in, layout_set, changed_set, placed_set, numbered_set, covered_set, past_set, slots_right, slots_seen}
@@ -12,7 +12,7 @@ use Rattle.lola_instances.proofs.Phases.{running_is_on}
 use Rattle.lola_instances.proofs.giving.give_each.Goals as goal
 
 pub give_each-requires-clause-step_ge : goal.give_each-requires-clause-step_ge
-give_each-requires-clause-step_ge g c κs within = c.args.s.now.begun (running_is_on c.args.s.now.stage c.requires.running)
+give_each-requires-clause-step_ge g c κs within = c.args.s.now.begun (running_is_on c.args.s.now.phase c.requires.running)
 
 pub give_each-requires-clause-each : goal.give_each-requires-clause-each
 give_each-requires-clause-each g c κs within =
@@ -41,7 +41,7 @@ give_each-requires-clause-right g c κs within =
     let l = c.index_mut-lives.result.now in
     let e = stream_read s.streams.items c.args.stream l c.requires.stream c.index_mut-lives.ensures.value in
     subst (λ (n : ℕ). AreRight true s.step n l) (sym c.offset_of-offset.ensures)
-    (subst (λ (b : Bool). AreRight b s.step (time_in s.stage - start_in s.stage) l) (running_is_on s.stage c.requires.running) (s.right c.args.stream l e).each)
+    (subst (λ (b : Bool). AreRight b s.step (time_in s.phase - start_in s.phase) l) (running_is_on s.phase c.requires.running) (s.right c.args.stream l e).each)
 
 pub invariant_of-s : goal.invariant_of-s
 invariant_of-s g c =
@@ -50,18 +50,18 @@ invariant_of-s g c =
     let l = c.index_mut-lives.result.now in
     let y = c.give_each.new.self in
     let e = stream_read s.streams.items n l c.requires.stream c.index_mut-lives.ensures.value in
-    let on = running_is_on s.stage c.requires.running in
+    let on = running_is_on s.phase c.requires.running in
     let rest = c.give_each.ensures.rest in
     let count = c.give_each.ensures.count in
-    let right = subst (λ (b : Bool). AreRight b s.step (time_in s.stage - start_in s.stage) y) (sym on) (subst (λ (n : ℕ). AreRight true s.step n y) c.offset_of-offset.ensures c.give_each.ensures.right) in
+    let right = subst (λ (b : Bool). AreRight b s.step (time_in s.phase - start_in s.phase) y) (sym on) (subst (λ (n : ℕ). AreRight true s.step n y) c.offset_of-offset.ensures c.give_each.ensures.right) in
     record {
       step_ge = s.step_ge;
       step_le = s.step_le;
       begun = s.begun;
       time_ge = s.time_ge;
       offset_is = s.offset_is;
-      right = each-set (CrowdRight (is_on s.stage) s.prepared s.step (time_in s.stage - start_in s.stage)) s.streams.items n y s.right
-          (slots_right (is_on s.stage) s.prepared s.step (time_in s.stage - start_in s.stage) l y (s.right n l e) rest (omega arith) right);
+      right = each-set (CrowdRight (is_on s.phase) s.prepared s.step (time_in s.phase - start_in s.phase)) s.streams.items n y s.right
+          (slots_right (is_on s.phase) s.prepared s.step (time_in s.phase - start_in s.phase) l y (s.right n l e) rest (omega arith) right);
       placed = placed_set s.windows s.sizes s.places.items s.streams.items n l y e (ap (λ (z : Crowd). z.layout) rest) (ap (λ (z : Crowd). z.windows) rest) s.placed;
       at_places = s.at_places;
       covered = covered_set s.windows s.streams.items n l y e (ap (λ (z : Crowd). z.windows) rest) s.covered;
@@ -81,7 +81,7 @@ returns-clause-seen g c =
     (slots_seen s.step l y (λ xs. given_each xs c.args.outcomes.now) rest c.give_each.ensures.seen) in
     λ i. record {
       layout = record { streams = lay i; windows = s.windows; panes = s.sizes };
-      phase = phase_in s.stage;
+      phase = phase_in s.phase;
       prepared = s.prepared;
       steps = s.step - 1;
       streams = all i;
@@ -94,6 +94,6 @@ returns-clause-past g c = λ names m j values held h.
     let l = c.index_mut-lives.result.now in
     let y = c.give_each.new.self in
     let e = stream_read s.streams.items n l c.requires.stream c.index_mut-lives.ensures.value in
-    let off : c.offset_of-offset.result ≡ time_in s.stage - start_in s.stage = c.offset_of-offset.ensures in
-    past_set (λ o. RemembersAt (start_in s.stage) (time_in s.stage) s.step names o values) s.streams.items n l y e m j
-    (c.give_each.ensures.past (start_in s.stage) (time_in s.stage) names j values off s.time_ge held) h
+    let off : c.offset_of-offset.result ≡ time_in s.phase - start_in s.phase = c.offset_of-offset.ensures in
+    past_set (λ o. RemembersAt (start_in s.phase) (time_in s.phase) s.step names o values) s.streams.items n l y e m j
+    (c.give_each.ensures.past (start_in s.phase) (time_in s.phase) names j values off s.time_ge held) h

@@ -8,7 +8,7 @@ use Rattle.lola_store.specs.declared.population.Population.{Population}
 use Rattle.lola_instances_stream.specs.Each.{Each}
 use Rattle.lola_store.specs.Instances.{instance_seen, RecallsAt, InstanceRight}
 use Rattle.lola_store.specs.Populations.{PopulationRight}
-use Rattle.lola_instances.specs.Stages.{phase_in, time_in, is_on}
+use Rattle.lola_instances.specs.Phases.{phase_in, time_in, is_on}
 use Rattle.lola_instances_stream.proofs.Lists.{each-set, each-remove, remove_before, remove_after, remove_length, remove_map}
 use Rattle.lola_store.proofs.Changing.{found_stream, layout_set, changed_set, past_remove}
 use Rattle.lola_store.proofs.changes.close.Goals as goal
@@ -27,12 +27,12 @@ invariant_of-s c =
     let q : vec_capacity v ≡ vec_capacity l.lives = c.remove-gone.ensures.capacity in
     record {
       step_ge = s.step_ge;
-      right = each-set (PopulationRight (is_on s.stage) s.prepared s.step) s.streams.items n k s.right
+      right = each-set (PopulationRight (is_on s.phase) s.prepared s.step) s.streams.items n k s.right
           (record {
             bad_le = p.bad_le;
             spawned_le = p.spawned_le;
             few = omega (arith, p.few, ap length g, remove_length l.lives.items c.args.index);
-            each = subst (Each (InstanceRight l.kind l.parameters (is_on s.stage) s.prepared s.step)) (sym g) (each-remove (InstanceRight l.kind l.parameters (is_on s.stage) s.prepared s.step) l.lives.items c.args.index p.each);
+            each = subst (Each (InstanceRight l.kind l.parameters (is_on s.phase) s.prepared s.step)) (sym g) (each-remove (InstanceRight l.kind l.parameters (is_on s.phase) s.prepared s.step) l.lives.items c.args.index p.each);
             room = λ w. omega (arith, p.room w, t, q);
             spares = p.spares;
             spare = p.spare;
@@ -54,7 +54,7 @@ returns-clause-seen c =
     (λ j. record { bad = nat_eq l.bad_at s.step; spawned = nat_eq l.spawned_at s.step; instances = inner j }) in
     λ i. record {
       layout = record { streams = lay i; windows = s.windows; panes = s.sizes };
-      phase = phase_in s.stage;
+      phase = phase_in s.phase;
       prepared = s.prepared;
       steps = s.step - 1;
       streams = all i;
@@ -69,6 +69,6 @@ returns-clause-past c = λ names m j values h.
     let k : Population = record l { lives = v } in
     let e = found_stream s.step s.streams.items n c.args.index l c.requires.index c.index_mut-population.ensures.value in
     let g : v.items ≡ remove l.lives.items c.args.index = c.remove-gone.ensures.items in
-    past_remove (λ o. RecallsAt (time_in s.stage) s.step names o values) s.streams.items n l k e c.args.index m j
+    past_remove (λ o. RecallsAt (time_in s.phase) s.step names o values) s.streams.items n l k e c.args.index m j
     (λ q b. ap (λ xs. slice_get xs q) g ∙ remove_before l.lives.items c.args.index q b)
     (λ q b. ap (λ xs. slice_get xs q) g ∙ (remove_after l.lives.items c.args.index q b ∙ ap (slice_get l.lives.items) (sym (add-one q)))) h

@@ -9,7 +9,7 @@ use Rattle.lola_store.specs.declared.population.Population.{Population}
 use Rattle.lola_instances_stream.specs.Each.{Each}
 use Rattle.lola_store.specs.Instances.{shown, instance_seen, RecallsAt, InstanceRight}
 use Rattle.lola_store.specs.Populations.{PopulationRight}
-use Rattle.lola_instances.specs.Stages.{phase_in, time_in, is_on}
+use Rattle.lola_instances.specs.Phases.{phase_in, time_in, is_on}
 use Rattle.lola_store.specs.Tallies.{AllOf}
 use Rattle.lola_instances_stream.proofs.Lists.{each-set}
 use Rattle.lola_instances.proofs.Phases.{running_is_on}
@@ -30,20 +30,20 @@ invariant_of-s c =
     let f = found_instance s.step s.streams.items n c.args.index l x e c.requires.index c.index_mut-life.ensures.value in
     let p = s.right n l e in
     let h = p.each c.args.index x f in
-    let on = running_is_on s.stage c.requires.running in
-    let u = untold l.kind l.parameters (is_on s.stage) s.prepared s.step x h (silent_at s.step s.streams.items n c.args.index l x e f c.requires.silent) in
-    let fall = owed_fall s.prepared (is_on s.stage) s.step x.told_at y.told_at on u c.poison.ensures.told_at in
+    let on = running_is_on s.phase c.requires.running in
+    let u = untold l.kind l.parameters (is_on s.phase) s.prepared s.step x h (silent_at s.step s.streams.items n c.args.index l x e f c.requires.silent) in
+    let fall = owed_fall s.prepared (is_on s.phase) s.step x.told_at y.told_at on u c.poison.ensures.told_at in
     let v : AllOf l.kind y.values.items = subst (AllOf l.kind) (sym (ap (λ v. v.items) c.poison.ensures.values)) h.values in
-    let r = instance_told l.kind l.parameters (is_on s.stage) s.prepared s.step x y (outcome.Poison) h on c.poison.ensures.params c.poison.ensures.told_at c.poison.ensures.outcome refl refl v
+    let r = instance_told l.kind l.parameters (is_on s.phase) s.prepared s.step x y (outcome.Poison) h on c.poison.ensures.params c.poison.ensures.told_at c.poison.ensures.outcome refl refl v
     (let a : vec_len y.values ≡ vec_len x.values = ap (λ v. v.len) c.poison.ensures.values in let b : vec_capacity y.values ≡ vec_capacity x.values = ap (λ v. v.cap) c.poison.ensures.values in omega (arith, h.room, fall, a, b)) in
     record {
       step_ge = s.step_ge;
-      right = each-set (PopulationRight (is_on s.stage) s.prepared s.step) s.streams.items n k s.right
+      right = each-set (PopulationRight (is_on s.phase) s.prepared s.step) s.streams.items n k s.right
           (record {
             bad_le = p.bad_le;
             spawned_le = p.spawned_le;
             few = omega (arith, p.few, length-set l.lives.items c.args.index y);
-            each = each-set (InstanceRight l.kind l.parameters (is_on s.stage) s.prepared s.step) l.lives.items c.args.index y p.each r;
+            each = each-set (InstanceRight l.kind l.parameters (is_on s.phase) s.prepared s.step) l.lives.items c.args.index y p.each r;
             room = p.room;
             spares = p.spares;
             spare = p.spare;
@@ -69,7 +69,7 @@ returns-clause-seen c =
     (λ j. record { bad = nat_eq l.bad_at s.step; spawned = nat_eq l.spawned_at s.step; instances = inner j }) in
     λ i. record {
       layout = record { streams = lay i; windows = s.windows; panes = s.sizes };
-      phase = phase_in s.stage;
+      phase = phase_in s.phase;
       prepared = s.prepared;
       steps = s.step - 1;
       streams = all i;
@@ -86,6 +86,6 @@ returns-clause-past c = λ names m j values h.
     let e = found_stream s.step s.streams.items n c.args.index l c.requires.index c.index_mut-population.ensures.value in
     let f = found_instance s.step s.streams.items n c.args.index l x e c.requires.index c.index_mut-life.ensures.value in
     let none = is_missing (shown s.step x) (silent_at s.step s.streams.items n c.args.index l x e f c.requires.silent) in
-    past_set (λ o. RecallsAt (time_in s.stage) s.step names o values) s.streams.items n l k e m j
-    (recalls_set (λ o. RecallsAt (time_in s.stage) s.step names o values) l.lives.items c.args.index j x y f
-    (λ r. recalls_poison (time_in s.stage) s.step names x y values r none c.poison.ensures.told_at c.poison.ensures.outcome (ap (λ v. v.items) c.poison.ensures.values))) h
+    past_set (λ o. RecallsAt (time_in s.phase) s.step names o values) s.streams.items n l k e m j
+    (recalls_set (λ o. RecallsAt (time_in s.phase) s.step names o values) l.lives.items c.args.index j x y f
+    (λ r. recalls_poison (time_in s.phase) s.step names x y values r none c.poison.ensures.told_at c.poison.ensures.outcome (ap (λ v. v.items) c.poison.ensures.values))) h

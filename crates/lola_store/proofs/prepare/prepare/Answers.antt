@@ -4,7 +4,7 @@ use Rattle.lola_model.specs.Typing.{takes}
 use Rattle.lola_model.specs.declared.spec.WindowSpec.{WindowSpec}
 use Rattle.lola_instances_stream.specs.Each.{Each}
 use Rattle.lola_store.specs.Rooms.{IsKept}
-use Rattle.lola_instances.specs.Stages.{phase_in, time_in, is_on}
+use Rattle.lola_instances.specs.Phases.{phase_in, time_in, is_on}
 use Rattle.lola_store.proofs.Preparing.{paired-at, kept_right, ready_right, seen_still, layout_still, still_recall}
 use Rattle.lola_store.proofs.prepare.prepare.Goals as goal
 
@@ -15,7 +15,7 @@ invariant_of-s c =
     let k = c.make_all_ready.ensures.kept in
     record {
       step_ge = s.step_ge;
-      right = λ i y e. let p = paired-at IsKept s.streams.items ks i y k e in kept_right (is_on s.stage) s.prepared s.step p.0 y p.2 (s.right i p.0 p.1);
+      right = λ i y e. let p = paired-at IsKept s.streams.items ks i y k e in kept_right (is_on s.phase) s.prepared s.step p.0 y p.2 (s.right i p.0 p.1);
       taken = subst (λ (lay : List StreamLayout). Each (λ (w : WindowSpec). IsTrue (takes w.using (kind_in (slice_get lay w.target)))) s.windows) (sym (layout_still s.streams.items ks k)) s.taken;
     }
 
@@ -26,7 +26,7 @@ invariant_of-s-in-Ok c =
     let k = c.make_all_ready.ensures.kept in
     record {
       step_ge = s.step_ge;
-      right = λ i y e. let p = paired-at IsKept s.streams.items ks i y k e in ready_right (is_on s.stage) s.prepared s.step p.0 y p.2 (s.right i p.0 p.1) (c.in-Ok.ensures.ok i y e);
+      right = λ i y e. let p = paired-at IsKept s.streams.items ks i y k e in ready_right (is_on s.phase) s.prepared s.step p.0 y p.2 (s.right i p.0 p.1) (c.in-Ok.ensures.ok i y e);
       taken = subst (λ (lay : List StreamLayout). Each (λ (w : WindowSpec). IsTrue (takes w.using (kind_in (slice_get lay w.target)))) s.windows) (sym (layout_still s.streams.items ks k)) s.taken;
     }
 
@@ -37,7 +37,7 @@ returns-in-Err-clause-err c =
     let k = c.make_all_ready.ensures.kept in
     λ i. record {
       layout = record { streams = layout_still s.streams.items ks k i; windows = s.windows; panes = s.sizes };
-      phase = phase_in s.stage;
+      phase = phase_in s.phase;
       prepared = s.prepared;
       steps = s.step - 1;
       streams = seen_still s.step s.streams.items ks k i;
@@ -50,7 +50,7 @@ returns-in-Ok-clause-ok c =
     let k = c.make_all_ready.ensures.kept in
     λ i. record {
       layout = record { streams = layout_still s.streams.items ks k i; windows = s.windows; panes = s.sizes };
-      phase = phase_in s.stage;
+      phase = phase_in s.phase;
       prepared = true;
       steps = s.step - 1;
       streams = seen_still s.step s.streams.items ks k i;
@@ -59,9 +59,9 @@ returns-in-Ok-clause-ok c =
 pub returns-in-Err-clause-past : goal.returns-in-Err-clause-past
 returns-in-Err-clause-past c = λ names n i values h.
     let s = c.args.s.now in
-    still_recall (time_in s.stage) s.step names values s.streams.items c.make_all_ready.new.streams.items n i c.make_all_ready.ensures.kept h
+    still_recall (time_in s.phase) s.step names values s.streams.items c.make_all_ready.new.streams.items n i c.make_all_ready.ensures.kept h
 
 pub returns-in-Ok-clause-past : goal.returns-in-Ok-clause-past
 returns-in-Ok-clause-past c = λ names n i values h.
     let s = c.args.s.now in
-    still_recall (time_in s.stage) s.step names values s.streams.items c.make_all_ready.new.streams.items n i c.make_all_ready.ensures.kept h
+    still_recall (time_in s.phase) s.step names values s.streams.items c.make_all_ready.new.streams.items n i c.make_all_ready.ensures.kept h

@@ -11,7 +11,7 @@ use Rattle.lola_store.specs.declared.population.Population.{Population}
 use Rattle.lola_store.specs.declared.store.WholeStore.{WholeStore}
 use Rattle.lola_store.specs.Instances.{RecallsAt}
 use Rattle.lola_store.specs.Populations.{population_layout}
-use Rattle.lola_instances.specs.Stages.{time_in, is_on}
+use Rattle.lola_instances.specs.Phases.{time_in, is_on}
 use Rattle.lola_store.specs.Stores.{whole_seen, whole_remembers}
 use Rattle.lola_store.specs.Tallies.{AllOf, read_timed}
 use Rattle.lola_store.proofs.Asking.{now_found}
@@ -36,7 +36,7 @@ aggregate-requires-in-Some-clause-kinds c =
     let n = c.args.w.now.target in
     let l = c.index.result.now in
     let e = stream_read s.streams.items n l c.requires.fits.stream c.index.ensures in
-    subst (AllOf l.kind) (sym c.as_slice.ensures.value) (right_at (is_on s.stage) s.prepared s.step s.streams.items n c.in-Some.i l c.instance-life.result.now s.right e c.instance-life.ensures).values
+    subst (AllOf l.kind) (sym c.as_slice.ensures.value) (right_at (is_on s.phase) s.prepared s.step s.streams.items n c.in-Some.i l c.instance-life.result.now s.right e c.instance-life.ensures).values
 
 pub aggregate-requires-in-Some-clause-fit : goal.aggregate-requires-in-Some-clause-fit
 aggregate-requires-in-Some-clause-fit c =
@@ -74,14 +74,14 @@ returns-in-Some-clause-living c =
     let e = stream_read s.streams.items n l c.requires.fits.stream c.index.ensures in
     let kd = kind_is s n l e in
     let nf = now_found s n p c.in-Some.i x (not_true _ c.requires.good) c.in-Some.ensures c.instance-life.ensures in
-    let te : c.time_of-time.result ≡ time_seen (whole_seen s) = c.time_of-time.ensures ∙ sym (phase_time s.stage) in
-    let tp : time_in s.stage ≡ time_seen (whole_seen s) = sym (phase_time s.stage) in
+    let te : c.time_of-time.result ≡ time_seen (whole_seen s) = c.time_of-time.ensures ∙ sym (phase_time s.phase) in
+    let tp : time_in s.phase ≡ time_seen (whole_seen s) = sym (phase_time s.phase) in
     let k = kind_in (slice_get (map population_layout s.streams.items) n) in
     subst (λ (o : Option ℕ). MatchOption o
     ((names : Naming) → read_outcome names r ≡ aggregated w.using k (values_within w.over (time_seen (whole_seen s)) (one_more (time_seen (whole_seen s)) (read_outcome names (now_of (whole_seen s) n p)))))
     (λ i. (names : Naming) (values : List (ℕ × Field)) → whole_remembers s names n i values
     → read_outcome names r ≡ aggregated w.using k (values_within w.over (time_seen (whole_seen s)) (values ++ one_more (time_seen (whole_seen s)) (read_outcome names (now_of (whole_seen s) n p)))))) c.in-Some.ensures
     (λ names values m.
-    let h = subst (λ (o : Option Instance). RecallsAt (time_in s.stage) s.step names o values) c.instance-life.ensures m in
+    let h = subst (λ (o : Option Instance). RecallsAt (time_in s.phase) s.step names o values) c.instance-life.ensures m in
     let all = ap (map (read_timed names)) c.as_slice.ensures.value ∙ (h.all ∙ (λ j. values ++ one_more (tp j) (read_outcome names (nf j)))) in
     c.aggregate-in-Some.ensures.value names ∙ (λ j. aggregated w.using (sym kd j) (values_within w.over (te j) (all j))))

@@ -5,7 +5,7 @@ use Rattle.lola_model.specs.Reading.{held_answer}
 use Rattle.lola_model.specs.Store.{instances_seen, now_of}
 use Rattle.lola_store.specs.declared.instance.Instance.{Instance}
 use Rattle.lola_store.specs.Instances.{RecallsAt}
-use Rattle.lola_instances.specs.Stages.{time_in}
+use Rattle.lola_instances.specs.Phases.{time_in}
 use Rattle.lola_store.specs.Stores.{whole_seen, whole_remembers}
 use Rattle.lola_store.proofs.Asking.{now_found, of_kind}
 use Rattle.lola_store.proofs.Places.{found_below}
@@ -26,8 +26,8 @@ returns-in-Some-clause-living c =
     → IsHeldIn names (now_of (whole_seen s) n p)
     → (read_outcome names r ≡ held_answer (read_outcome names (now_of (whole_seen s) n p)) values) × IsHeldIn names r)) c.in-Some.ensures
     (λ names values m held.
-    let h = subst (λ (o : Option Instance). RecallsAt (time_in s.stage) s.step names o values) c.instance.ensures m in
-    let a = c.newest.ensures.value (time_in s.stage) names values h in
+    let h = subst (λ (o : Option Instance). RecallsAt (time_in s.phase) s.step names o values) c.instance.ensures m in
+    let a = c.newest.ensures.value (time_in s.phase) names values h in
     (a.0 ∙ ap (λ o. held_answer (read_outcome names o) values) e, a.1))
 
 pub returns-in-Some-clause-kind : goal.returns-in-Some-clause-kind

@@ -9,7 +9,7 @@ use Rattle.lola_instances_stream.specs.Rights.{AreRight, CrowdRight}
 use Rattle.lola_instances_stream.proofs.Lists.{each-set}
 use Rattle.lola_instances.specs.Restoring.{HasPanesOf}
 use Rattle.lola_instances.specs.Saved.{panes_at}
-use Rattle.lola_instances.specs.Stages.{phase_in, start_in, time_in, is_on}
+use Rattle.lola_instances.specs.Phases.{phase_in, start_in, time_in, is_on}
 use Rattle.lola_instances.specs.Stores.{bounded_seen}
 use Rattle.lola_instances.specs.Streams.{slot_at}
 use Rattle.lola_instances.specs.declared.store.BoundedStore.{BoundedStore}
@@ -26,7 +26,7 @@ within : (s : BoundedStore) (window index : ℕ) (w : WindowSpec) → slice_get 
 within s window index w e h = subst (λ (o : Option WindowSpec). index < length (instances_seen (bounded_seen s) (target_of o))) e h
 
 pub restore_panes-requires-clause-step_ge : goal.restore_panes-requires-clause-step_ge
-restore_panes-requires-clause-step_ge c = c.args.self.now.begun (running_is_on c.args.self.now.stage c.requires.running)
+restore_panes-requires-clause-step_ge c = c.args.self.now.begun (running_is_on c.args.self.now.phase c.requires.running)
 
 pub restore_panes-requires-clause-index : goal.restore_panes-requires-clause-index
 restore_panes-requires-clause-index c =
@@ -66,7 +66,7 @@ restore_panes-requires-clause-newest c =
     let i = within s c.args.window c.args.index c.spec_of.result.now c.spec_of.ensures c.requires.index in
     let e = found_stream s.step s.streams.items n c.args.index l i c.index_mut-lives.ensures.value in
     let off : time_seen (bounded_seen s) - start_seen (bounded_seen s) ≡ c.offset_of-offset.result =
-    (λ j. phase_time s.stage j - phase_start s.stage j) ∙ sym c.offset_of-offset.ensures in
+    (λ j. phase_time s.phase j - phase_start s.phase j) ∙ sym c.offset_of-offset.ensures in
     panes_asked s.streams.items s.windows s.places.items c.args.window c.args.index c.spec_of.result.now c.place_of_panes-place.result l c.spec_of.ensures c.place_of_panes-place.ensures e
     (λ p. first_offset p.pane c.args.last ≤ c.offset_of-offset.result)
     (subst (λ (k : ℕ). MatchOption (panes_at s c.args.window c.args.index) ⊥ (λ p. first_offset p.pane c.args.last ≤ k)) off c.requires.newest)
@@ -79,7 +79,7 @@ restore_panes-requires-clause-right c =
     let i = within s c.args.window c.args.index c.spec_of.result.now c.spec_of.ensures c.requires.index in
     let e = found_stream s.step s.streams.items n c.args.index l i c.index_mut-lives.ensures.value in
     subst (λ (k : ℕ). AreRight true s.step k l) (sym c.offset_of-offset.ensures)
-    (subst (λ (b : Bool). AreRight b s.step (time_in s.stage - start_in s.stage) l) (running_is_on s.stage c.requires.running) (s.right n l e).each)
+    (subst (λ (b : Bool). AreRight b s.step (time_in s.phase - start_in s.phase) l) (running_is_on s.phase c.requires.running) (s.right n l e).each)
 
 pub invariant_of-self : goal.invariant_of-self
 invariant_of-self c =
@@ -89,18 +89,18 @@ invariant_of-self c =
     let y = c.restore_panes.new.self in
     let i = within s c.args.window c.args.index c.spec_of.result.now c.spec_of.ensures c.requires.index in
     let e = found_stream s.step s.streams.items n c.args.index l i c.index_mut-lives.ensures.value in
-    let on = running_is_on s.stage c.requires.running in
+    let on = running_is_on s.phase c.requires.running in
     let rest = c.restore_panes.ensures.rest in
     let count = c.restore_panes.ensures.count in
-    let right = subst (λ (b : Bool). AreRight b s.step (time_in s.stage - start_in s.stage) y) (sym on) (subst (λ (k : ℕ). AreRight true s.step k y) c.offset_of-offset.ensures c.restore_panes.ensures.right) in
+    let right = subst (λ (b : Bool). AreRight b s.step (time_in s.phase - start_in s.phase) y) (sym on) (subst (λ (k : ℕ). AreRight true s.step k y) c.offset_of-offset.ensures c.restore_panes.ensures.right) in
     record {
       step_ge = s.step_ge;
       step_le = s.step_le;
       begun = s.begun;
       time_ge = s.time_ge;
       offset_is = s.offset_is;
-      right = each-set (CrowdRight (is_on s.stage) s.prepared s.step (time_in s.stage - start_in s.stage)) s.streams.items n y s.right
-          (slots_right (is_on s.stage) s.prepared s.step (time_in s.stage - start_in s.stage) l y (s.right n l e) rest (omega arith) right);
+      right = each-set (CrowdRight (is_on s.phase) s.prepared s.step (time_in s.phase - start_in s.phase)) s.streams.items n y s.right
+          (slots_right (is_on s.phase) s.prepared s.step (time_in s.phase - start_in s.phase) l y (s.right n l e) rest (omega arith) right);
       placed = placed_set s.windows s.sizes s.places.items s.streams.items n l y e (ap (λ (z : Crowd). z.layout) rest) (ap (λ (z : Crowd). z.windows) rest) s.placed;
       at_places = s.at_places;
       covered = covered_set s.windows s.streams.items n l y e (ap (λ (z : Crowd). z.windows) rest) s.covered;
@@ -120,7 +120,7 @@ returns-clause-seen c =
     let all = same_seen s.step s.streams.items n l y e rest c.restore_panes.ensures.seen in
     λ j. record {
       layout = record { streams = lay j; windows = s.windows; panes = s.sizes };
-      phase = phase_in s.stage;
+      phase = phase_in s.phase;
       prepared = s.prepared;
       steps = s.step - 1;
       streams = all j;

@@ -5,7 +5,7 @@ use Rattle.lola_instances_stream.specs.Crowds.{Crowd}
 use Rattle.lola_instances_stream.specs.Restoring.{HasOneMore}
 use Rattle.lola_instances_stream.specs.Rights.{AreRight, CrowdRight}
 use Rattle.lola_instances_stream.proofs.Lists.{each-set}
-use Rattle.lola_instances.specs.Stages.{phase_in, start_in, time_in, is_on}
+use Rattle.lola_instances.specs.Phases.{phase_in, start_in, time_in, is_on}
 use Rattle.lola_instances.proofs.Asking.{found_stream, index_is, layout_at}
 use Rattle.lola_instances.proofs.Changing.{silent_in, layout_set, placed_set, numbered_set, covered_set, slots_right}
 use Rattle.lola_instances.proofs.Phases.{running_is_on}
@@ -13,7 +13,7 @@ use Rattle.lola_instances.proofs.Restored.{is_slot, other_slots, same_seen, was_
 use Rattle.lola_instances.proofs.store.BoundedStore.restore_value.Goals as goal
 
 pub restore_value-requires-clause-step_ge : goal.restore_value-requires-clause-step_ge
-restore_value-requires-clause-step_ge c = c.args.self.now.begun (running_is_on c.args.self.now.stage c.requires.running)
+restore_value-requires-clause-step_ge c = c.args.self.now.begun (running_is_on c.args.self.now.phase c.requires.running)
 
 pub restore_value-requires-clause-index : goal.restore_value-requires-clause-index
 restore_value-requires-clause-index c =
@@ -42,7 +42,7 @@ restore_value-requires-clause-right c =
     let l = c.index_mut-lives.result.now in
     let e = found_stream s.step s.streams.items c.args.stream c.args.index l c.requires.index c.index_mut-lives.ensures.value in
     subst (λ (n : ℕ). AreRight true s.step n l) (sym c.offset_of-offset.ensures)
-    (subst (λ (b : Bool). AreRight b s.step (time_in s.stage - start_in s.stage) l) (running_is_on s.stage c.requires.running) (s.right c.args.stream l e).each)
+    (subst (λ (b : Bool). AreRight b s.step (time_in s.phase - start_in s.phase) l) (running_is_on s.phase c.requires.running) (s.right c.args.stream l e).each)
 
 pub invariant_of-self : goal.invariant_of-self
 invariant_of-self c =
@@ -51,18 +51,18 @@ invariant_of-self c =
     let l = c.index_mut-lives.result.now in
     let y = c.restore_value.new.self in
     let e = found_stream s.step s.streams.items n c.args.index l c.requires.index c.index_mut-lives.ensures.value in
-    let on = running_is_on s.stage c.requires.running in
+    let on = running_is_on s.phase c.requires.running in
     let rest = c.restore_value.ensures.rest in
     let count = c.restore_value.ensures.count in
-    let right = subst (λ (b : Bool). AreRight b s.step (time_in s.stage - start_in s.stage) y) (sym on) (subst (λ (n : ℕ). AreRight true s.step n y) c.offset_of-offset.ensures c.restore_value.ensures.right) in
+    let right = subst (λ (b : Bool). AreRight b s.step (time_in s.phase - start_in s.phase) y) (sym on) (subst (λ (n : ℕ). AreRight true s.step n y) c.offset_of-offset.ensures c.restore_value.ensures.right) in
     record {
       step_ge = s.step_ge;
       step_le = s.step_le;
       begun = s.begun;
       time_ge = s.time_ge;
       offset_is = s.offset_is;
-      right = each-set (CrowdRight (is_on s.stage) s.prepared s.step (time_in s.stage - start_in s.stage)) s.streams.items n y s.right
-          (slots_right (is_on s.stage) s.prepared s.step (time_in s.stage - start_in s.stage) l y (s.right n l e) rest (omega arith) right);
+      right = each-set (CrowdRight (is_on s.phase) s.prepared s.step (time_in s.phase - start_in s.phase)) s.streams.items n y s.right
+          (slots_right (is_on s.phase) s.prepared s.step (time_in s.phase - start_in s.phase) l y (s.right n l e) rest (omega arith) right);
       placed = placed_set s.windows s.sizes s.places.items s.streams.items n l y e (ap (λ (z : Crowd). z.layout) rest) (ap (λ (z : Crowd). z.windows) rest) s.placed;
       at_places = s.at_places;
       covered = covered_set s.windows s.streams.items n l y e (ap (λ (z : Crowd). z.windows) rest) s.covered;
@@ -81,7 +81,7 @@ returns-clause-seen c =
     let all = same_seen s.step s.streams.items n l y e rest c.restore_value.ensures.seen in
     λ i. record {
       layout = record { streams = lay i; windows = s.windows; panes = s.sizes };
-      phase = phase_in s.stage;
+      phase = phase_in s.phase;
       prepared = s.prepared;
       steps = s.step - 1;
       streams = all i;

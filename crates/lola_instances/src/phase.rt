@@ -1,7 +1,7 @@
 //! How far a store is.
 
 ghost use Rattle.std.specs.Prelude.{◌≡◌, ◌≤◌, ◌-◌};
-ghost use Rattle.lola_instances.specs.Stages.{start_in, time_in};
+ghost use Rattle.lola_instances.specs.Phases.{start_in, time_in};
 
 /// How far a store is: new, with a start, or in a step.
 #[derive(Clone, Copy)]
@@ -12,10 +12,10 @@ pub enum StorePhase {
 }
 
 /// Where time counts from, 0 while that is not set.
-pub fn start_of(stage: StorePhase) -> u64
-    ensures { result ≡ start_in stage }
+pub fn start_of(phase: StorePhase) -> u64
+    ensures { result ≡ start_in phase }
 {
-    match stage {
+    match phase {
         StorePhase::New => 0,
         StorePhase::Started(start) => start,
         StorePhase::Running(start, _) => start,
@@ -23,10 +23,10 @@ pub fn start_of(stage: StorePhase) -> u64
 }
 
 /// The time of this step, or else the start.
-pub fn time_of(stage: StorePhase) -> u64
-    ensures { result ≡ time_in stage }
+pub fn time_of(phase: StorePhase) -> u64
+    ensures { result ≡ time_in phase }
 {
-    match stage {
+    match phase {
         StorePhase::New => 0,
         StorePhase::Started(start) => start,
         StorePhase::Running(_, time) => time,
