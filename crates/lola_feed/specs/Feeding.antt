@@ -1,8 +1,8 @@
 -- A source's worker: which rows are still to come of its source, and what a turn of it does.
-use Rattle.std.specs.Prelude.{◌≡◌, ◌⊎◌, ◌+◌, ◌-◌, ◌<◌, ℕ, Bool, true, false, [], ◌∷◌, ◌++◌, Option, Some, None, Result, Ok, Err, option_map, length}
+use Rattle.std.specs.Prelude.{◌≡◌, ◌⊎◌, ◌+◌, ◌-◌, ◌<◌, ℕ, Bool, true, false, IsTrue, [], ◌∷◌, ◌++◌, Option, Some, None, Result, Ok, Err, option_map, length}
 use Rattle.std.specs.Option.{option_to_list}
 use Rattle.lola_model.specs.declared.journal.Row.{Row}
-use Rattle.lola_rows.specs.Reading.{IsRowOf, Passes, Reading, Stops, rest_of, size_of}
+use Rattle.lola_rows.specs.Reading.{IsRowOf, Passes, Reading, Stops, is_behind_heading, rest_of, size_of}
 use Rattle.lola_rows.specs.Rows.{SourceRows}
 use Rattle.lola_rows.specs.Steps.{Goes}
 use Rattle.lola_rows.specs.declared.answer.Ending.{Ending}
@@ -176,6 +176,7 @@ module _ {D : Type 0} (offers : Row → Offer → D → D → Type 0) (finishes 
   pub record GoesOn (old new : Working) : Type 0 where
     pub going : old.end ≡ None
     pub goes : Goes old.reader new.reader
+    pub behind : old.kept ≡ None → IsTrue (is_behind_heading new.reader.stage)
     pub desk : d1 ≡ d0
     pub kept : new.kept ≡ old.kept
     pub end : new.end ≡ None

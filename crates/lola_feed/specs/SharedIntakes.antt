@@ -1,5 +1,5 @@
 -- What an intake shows that threads share, whatever it is made of: by the seats of its sources and of its taker.
-use Rattle.std.specs.Prelude.{◌≡◌, ℕ, ◌<◌, Bool, true, false, List, [], ◌∷◌, ◌++◌, length, Option, Some, slice_get, All}
+use Rattle.std.specs.Prelude.{◌≡◌, ℕ, ◌<◌, Bool, true, false, not, List, [], ◌∷◌, ◌++◌, length, Option, Some, slice_get, All}
 use Rattle.atomic_table.specs.Seated.{TableId}
 use Rattle.lola_model.specs.Journal.{IsLegal, rows_of}
 use Rattle.lola_model.specs.declared.journal.Row.{Row}
@@ -120,11 +120,11 @@ pub record FinishesBy (old new : SeatedAt) : Type 0 where
   pub going : old.told ≡ false → (f : Finish) × (new ≡ record { seat = after_finish old.seat f; told = true; owes = is_owed f })
   pub over : old.told ≡ true → new ≡ old
 
--- a finish that is owed is made again
+-- a finish that is owed is made again; it is settled where none is owed any more
 pub record FinishesOwedBy (settled : Bool) (old new : SeatedAt) : Type 0 where
   pub owed : old.owes ≡ true → (old.told ≡ true) × ((f : Finish) × (new ≡ record old { seat = after_finish old.seat f; owes = is_owed f }))
   pub none : old.owes ≡ false → new ≡ old
-  pub answer : settled ≡ true → new.owes ≡ false
+  pub answer : settled ≡ not new.owes
 
 -- a seat stays that of its intake and its source, and its calls stay in order
 pub record IsSameSeat (old new : SeatShown) : Type 0 where

@@ -1,7 +1,7 @@
 //! A source's worker: it reads rows and hands them in.
 
-ghost use Rattle.std.specs.Prelude.{◌≡◌, ◌-◌, option_map};
-ghost use Rattle.lola_rows.specs.Reading.{IsRowOf, Keeps};
+ghost use Rattle.std.specs.Prelude.{◌≡◌, ◌-◌, ◌||◌, is_some, option_map};
+ghost use Rattle.lola_rows.specs.Reading.{IsRowOf, Keeps, has_begun};
 ghost use Rattle.lola_feed.specs.Feeding.{Begun, Looks, NextRow, Offers, Turns, beginning, end_of, row_or_end};
 
 use crate::desk::Desk;
@@ -107,7 +107,9 @@ impl<S: Source> SourceWorker<S> {
     }
 
     /// Whether the heading of its source was read, or the worker has ended.
-    pub fn has_begun(&self) -> bool {
+    pub fn has_begun(&self) -> bool
+        ensures { result ≡ (is_some self.now.end || has_begun self.now.reader) }
+    {
         self.end.is_some() || self.reader.has_begun()
     }
 

@@ -1,6 +1,6 @@
 //! A list of entries with room for all that can be pending.
 
-ghost use Rattle.std.specs.Prelude.{◌≡◌, ◌<◌, ◌++◌, ◌↔◌, [], ◌∷◌, length, IfOk, IsTrue, IsNone};
+ghost use Rattle.std.specs.Prelude.{◌≡◌, ◌<◌, ◌++◌, ◌↔◌, [], ◌∷◌, length, IfOk, IsFalse, IsTrue, IsNone};
 ghost use Rattle.std.specs.Option.{option_to_list};
 
 use lola_model::journal::Entry;
@@ -55,7 +55,8 @@ impl Batch {
 
     /// Whether there is no room for another.
     pub fn is_full(&self) -> bool
-        ensures { IsTrue result ↔ (length self.now ≡ MOST) }
+        ensures full { IsTrue result ↔ (length self.now ≡ MOST) }
+        ensures room { IsFalse result ↔ (length self.now < MOST) }
     {
         self.entries.len() == MOST
     }

@@ -367,7 +367,8 @@ impl<'a> Parser<'a> {
     /// Goes back to the last nesting that was read since `start`, if there was one.
     pub fn back_to_last_nesting(&mut self, start: Parser<'a>)
         requires { length self.old.rest ≤ length start.rest }
-        ensures { self.new.rest ≡ last_nesting spec.all_nestings (length start.entry.rest - length self.old.rest) self.old.rest start.entry.rest }
+        ensures rest { self.new.rest ≡ last_nesting spec.all_nestings (length start.entry.rest - length self.old.rest) self.old.rest start.entry.rest }
+        ensures room { self.new.room ≡ self.old.room }
     {
         let count = start.left() - self.left();
         let mut here = start;

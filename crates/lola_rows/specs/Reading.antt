@@ -1,5 +1,5 @@
 -- A reader of rows: what it still gives, and what its calls do.
-use Rattle.std.specs.Prelude.{◌≡◌, ℕ, ◌+◌, ◌<◌, ◌≤◌, List, [], ◌∷◌, ◌++◌, Option, Some, None, option_map, false, length, map}
+use Rattle.std.specs.Prelude.{◌≡◌, ℕ, ◌+◌, ◌<◌, ◌≤◌, List, [], ◌∷◌, ◌++◌, Bool, true, false, ◌||◌, Option, Some, None, is_some, option_map, length, map}
 use Rattle.std.specs.Io.KnownBytes.{prepend_known}
 use Rattle.std.specs.List.{AllZip, list_any}
 use Rattle.lola_value.specs.Times.{latest}
@@ -37,6 +37,17 @@ pub record Reading : Type 0 where
   pub held : List ℕ
   pub source : SourceState
   pub ended : Option Ending
+
+-- the heading stands behind
+abbrev pub is_behind_heading : Section → Bool
+is_behind_heading stage.Start = false
+is_behind_heading stage.Heading = false
+is_behind_heading stage.Rows = true
+is_behind_heading stage.Over = true
+
+-- the heading stands behind, or the reader has ended
+abbrev pub has_begun : Reading → Bool
+has_begun r = is_some r.ended || is_behind_heading r.stage
 
 -- the columns before a heading was taken
 abbrev pub no_columns : Columns

@@ -1,6 +1,7 @@
 //! A reader of the rows of a source, one after the other.
-ghost use Rattle.std.specs.Prelude.{◌≡◌, ◌≤◌, ◌^◌, ℕ, List, Some, None, Err, IfOk, OnOk};
+ghost use Rattle.std.specs.Prelude.{◌≡◌, ◌≤◌, ◌^◌, ℕ, List, Some, None, Err, IfOk, IsTrue, OnOk};
 ghost use Rattle.lola_rows.specs.Columns.{inputs_of};
+ghost use Rattle.lola_rows.specs.Reading.{has_begun, is_behind_heading};
 ghost use Rattle.lola_rows.specs.Rows.{rows_of_source};
 
 use crate::answer::{Ending, RowAnswer};
@@ -160,7 +161,9 @@ impl<S: Source> RowReader<S> {
     }
 
     /// Whether the heading was read, or the reader has ended.
-    pub fn has_begun(&self) -> bool {
+    pub fn has_begun(&self) -> bool
+        ensures { result ≡ has_begun self.now }
+    {
         self.ended.is_some() || matches!(self.stage, Section::Rows | Section::Over)
     }
 
@@ -168,6 +171,7 @@ impl<S: Source> RowReader<S> {
     pub fn begin(&mut self) -> Result<(), Ending>
         requires { self.old.ended ≡ None }
         ensures opens { Opens result self.old self.new }
+        ensures behind { OnOk result (IsTrue (is_behind_heading self.new.stage)) }
         ensures kept { Keeps self.old self.new }
     {
         match self.take_start() {
@@ -219,6 +223,7 @@ impl<S: Source> RowReader<S> {
     // Takes the byte order mark and the heading, unless they were taken.
     fn take_start(&mut self) -> Result<(), Ending>
         ensures begins { Begins result self.old self.new }
+        ensures behind { OnOk result (IsTrue (is_behind_heading self.new.stage)) }
         ensures kept { Keeps self.old self.new }
         ensures ended { self.new.ended ≡ self.old.ended }
     {

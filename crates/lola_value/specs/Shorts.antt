@@ -46,35 +46,6 @@ abbrev pub count_in : ℤ → ℕ
 count_in (pos n) = n
 count_in (negsuc n) = 0
 
--- a number in short, by whether 64 bits hold it with a sign, and without one
-abbrev pub short_by : Bool → Bool → ℤ → Option Short
-short_by true large z = Some (short.Int z)
-short_by false true z = Some (short.Large (count_in z))
-short_by false false z = None
-
--- the short value that stands for a value; none for a number that no kind has
-abbrev pub short_of : Value → Option Short
-short_of (value.Bool true) = Some short.True
-short_of (value.Bool false) = Some short.False
-short_of (value.Int z) = short_by (is_within kind.Int64 z) (is_within kind.UInt64 z) z
-short_of (value.Text id) = Some (short.Text id)
-
--- a value that can be short: a number is one of 64 bits, with or without a sign
-abbrev pub IsShortValue : Value → Type 0
-IsShortValue (value.Int z) = (negsuc 9223372036854775807 ≤ℤ z) × (z ≤ℤ pos 18446744073709551615)
-IsShortValue _ = Unit {0}
-
--- the same of an outcome
-abbrev pub IsShort : Outcome → Type 0
-IsShort (outcome.Value v) = IsShortValue v
-IsShort _ = Unit {0}
-
--- the number in it is one of 64 bits, and written without a sign only where it is above all that have one: so each outcome has one form
-abbrev pub is_exact : Short → Bool
-is_exact (short.Int z) = is_within kind.Int64 z
-is_exact (short.Large n) = not (is_within kind.Int64 (pos n))
-is_exact _ = true
-
 -- a number of 64 bits, by whether it is one with a sign
 abbrev pub shortened_number : Bool → ℤ → Short
 shortened_number true z = short.Int z
@@ -95,6 +66,40 @@ shortened (outcome.Fault fault.Overflow) = short.Overflow
 shortened (outcome.Fault fault.DivZero) = short.DivZero
 shortened (outcome.Fault fault.TooManyInstances) = short.TooManyInstances
 shortened outcome.Poison = short.Poison
+
+-- a number in short, by whether 64 bits hold it with a sign, and without one
+abbrev pub short_by : Bool → Bool → ℤ → Option Short
+short_by true large z = Some (short.Int z)
+short_by false true z = Some (short.Large (count_in z))
+short_by false false z = None
+
+-- the short value that stands for a value; none for a number that no kind has
+abbrev pub short_of : Value → Option Short
+short_of (value.Bool true) = Some short.True
+short_of (value.Bool false) = Some short.False
+short_of (value.Int z) = short_by (is_within kind.Int64 z) (is_within kind.UInt64 z) z
+short_of (value.Text id) = Some (short.Text id)
+
+-- the same of an outcome
+abbrev pub short_of_outcome : Outcome → Option Short
+short_of_outcome (outcome.Value v) = short_of v
+short_of_outcome o = Some (shortened o)
+
+-- a value that can be short: a number is one of 64 bits, with or without a sign
+abbrev pub IsShortValue : Value → Type 0
+IsShortValue (value.Int z) = (negsuc 9223372036854775807 ≤ℤ z) × (z ≤ℤ pos 18446744073709551615)
+IsShortValue _ = Unit {0}
+
+-- the same of an outcome
+abbrev pub IsShort : Outcome → Type 0
+IsShort (outcome.Value v) = IsShortValue v
+IsShort _ = Unit {0}
+
+-- the number in it is one of 64 bits, and written without a sign only where it is above all that have one: so each outcome has one form
+abbrev pub is_exact : Short → Bool
+is_exact (short.Int z) = is_within kind.Int64 z
+is_exact (short.Large n) = not (is_within kind.Int64 (pos n))
+is_exact _ = true
 
 -- an outcome that is a value
 abbrev pub is_given : Outcome → Bool

@@ -1,11 +1,11 @@
 //! Outcomes of 16 bytes.
 
-ghost use Rattle.std.specs.Prelude.{◌≡◌, IfSome};
+ghost use Rattle.std.specs.Prelude.{◌≡◌, ◌↔◌, None, IfSome, IsNone};
 ghost use Rattle.lola_value.specs.Arithmetic.{is_within};
 ghost use Rattle.lola_value.specs.declared.value.Kind.TheVariants as kind;
 ghost use Rattle.lola_value.specs.declared.value.Outcome.TheVariants as outcome;
 ghost use Rattle.lola_value.specs.declared.value.Value.TheVariants as value;
-ghost use Rattle.lola_value.specs.Shorts.{IsShort, IsShortValue, has_value, short_by, short_of, value_in, widened};
+ghost use Rattle.lola_value.specs.Shorts.{IsShort, IsShortValue, has_value, short_by, short_of, short_of_outcome, value_in, widened};
 
 use crate::value::{FaultKind, Outcome, TextId, Value};
 
@@ -153,7 +153,8 @@ pub fn short_value(v: Value) -> Option<Short>
 
 /// The same of an outcome.
 pub fn short_outcome(o: Outcome) -> Option<Short>
-    ensures { IfSome result (λ s. widened s ≡ o) }
+    ensures stands { IfSome result (λ s. widened s ≡ o) }
+    ensures none { IsNone result ↔ (short_of_outcome o ≡ None) }
 {
     match o {
         Outcome::Value(v) => short_value(v),

@@ -43,7 +43,7 @@ returns-then-not-has_room c =
     let k0 : starts (Of is.Shut ∷ []) mid ≡ true = cc in
     let k : starts (first (one_part 514)) mid ≡ true = ap (λ (ks : List Terminal). starts ks mid) (one_part_first 514) ∙ k0 in
     let z : c.nested.new.parser.room ≡ 0 = grind (arith, common_steps) in
-    rw (c.back_to_last_nesting.ensures, c.fork-start.ensures) (fork_deep all_nestings (expr_in 514) (more_parts 514) (one_part 514) c.args.bracket c.args.with c.args.parser.now.room c.args.parser.now.rest c.in_ok-first.first c.nested.new.parser.room c.nested.new.parser.rest h s k z)
+    rw (c.back_to_last_nesting.ensures.rest, c.fork-start.ensures) (fork_deep all_nestings (expr_in 514) (more_parts 514) (one_part 514) c.args.bracket c.args.with c.args.parser.now.room c.args.parser.now.rest c.in_ok-first.first c.nested.new.parser.room c.nested.new.parser.rest h s k z)
 
 pub returns : goal.returns
 unfolding forked
