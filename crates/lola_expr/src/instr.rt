@@ -7,7 +7,7 @@ use lola_value::value::Kind;
 /// One instruction of a machine that has one outcome in hand, and values on a stack. All that it needs stands in it: numbers of
 /// streams, windows and parameters, operators, kinds and literals. How a stream is read is the instruction's own, so that one jump decides.
 /// A jump says how many of the instructions behind it are passed.
-#[derive(Clone, Copy, Debug, PartialEq, Eq)]
+#[derive(Clone, Copy)]
 pub enum Instr {
     /// This value.
     Give(Short),
