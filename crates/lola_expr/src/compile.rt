@@ -1,7 +1,7 @@
 //! From expressions to instructions. The code is made from its end, so that a jump knows how much it passes, and then turned round.
 
 ghost use Rattle.std.specs.Prelude.{◌≡◌, [], ◌∷◌, ◌++◌, IfOk, OnOk};
-ghost use Rattle.lola_expr.specs.Code.{asking, back_arguments, back_code, code_of, defaulted_of, direct_of, giving, joining, literal_of, plain_of, plainly, plainly_or, operator_plainly_or, with_operator};
+ghost use Rattle.lola_expr.specs.Code.{asking, back_arguments, back_code, code_of, defaulted_of, direct_of, giving, joining, literal_of, plain_of, plainly, plainly_or, operator_plainly_or, with_branches, with_default, with_operands, with_operator};
 ghost use Rattle.lola_value.specs.Shorts.{short_of};
 
 use crate::evaluation::kind_at;
@@ -180,74 +180,111 @@ fn emit(code: &mut Vec<Instr>, e: &Expr) -> Result<(), Memory>
             emit_arguments(code, Target::Stream(*stream, *how), 0, args)
         }
         Expr::Window(_, number, args) => emit_arguments(code, Target::Window(*number), 0, args),
-        Expr::Defaults(_, a, b) => {
-            if let Some(v) = literal(b) {
-                if let Some((stream, how)) = plain(a) {
-                    return put(code, reading_or(stream, how, v));
-                }
-            }
-            let start = code.len();
-            emit(code, b)?;
-            let passed = code.len() - start;
-            put(code, Instr::Otherwise(passed))?;
-            emit(code, a)
-        }
+        Expr::Defaults(_, a, b) => emit_default(code, a, b),
         Expr::Unary(place, operator, a) => {
             put(code, Instr::Prefix(*operator, kind_at(place)))?;
             emit(code, a)
         }
-        Expr::Both(place, operator, a, b) => match joining_of(*operator) {
-            Joining::WhereTrue => {
-                let start = code.len();
-                emit(code, b)?;
-                let passed = code.len() - start;
-                put(code, Instr::WhereTrue(passed))?;
-                emit(code, a)
-            }
-            Joining::WhereFalse => {
-                let start = code.len();
-                emit(code, b)?;
-                let passed = code.len() - start;
-                put(code, Instr::WhereFalse(passed))?;
-                emit(code, a)
-            }
-            Joining::Both => {
-                if let Some(v) = literal(b) {
-                    put(code, Instr::OperatorGiven(*operator, kind_at(place), v))?;
-                    return emit(code, a);
-                }
-                if let Some((stream, (how, v))) = defaulted(b) {
-                    put(
-                        code,
-                        operator_reading_or(*operator, kind_at(place), stream, how, v),
-                    )?;
-                    return emit(code, a);
-                }
-                if let Some(stream) = direct(b) {
-                    put(code, Instr::OperatorNow(*operator, kind_at(place), stream))?;
-                    return emit(code, a);
-                }
-                let start = code.len();
-                put(code, Instr::Operator(*operator, kind_at(place)))?;
-                emit(code, b)?;
-                let passed = code.len() - start;
-                put(code, Instr::Keep(passed))?;
-                emit(code, a)
-            }
-        },
-        Expr::Choice(_, test, a, b) => {
-            let start = code.len();
-            emit(code, b)?;
-            let second = code.len() - start;
-            put(code, Instr::Jump(second))?;
-            let middle = code.len();
-            emit(code, a)?;
-            let first = code.len() - middle;
-            let all = code.len() - start;
-            put(code, Instr::Test(first + 1, all))?;
-            emit(code, test)
+        Expr::Both(place, operator, a, b) => emit_operator(code, *operator, kind_at(place), a, b),
+        Expr::Choice(_, test, a, b) => emit_choice(code, test, a, b),
+    }
+}
+
+/// Puts the code of `a.defaults(to: b)` behind other code.
+#[cycle(emit)]
+fn emit_default(code: &mut Vec<Instr>, a: &Expr, b: &Expr) -> Result<(), Memory>
+    ensures { OnOk result (code.new.items ≡ code.old.items ++ with_default (back_code a.now) (back_code b.now) (plain_of a.now) (literal_of b.now)) }
+{
+    if let Some(v) = literal(b) {
+        if let Some((stream, how)) = plain(a) {
+            return put(code, reading_or(stream, how, v));
         }
     }
+    let start = code.len();
+    emit(code, b)?;
+    let passed = code.len() - start;
+    put(code, Instr::Otherwise(passed))?;
+    emit(code, a)
+}
+
+/// Puts the code of an operator between two operands behind other code.
+#[cycle(emit)]
+fn emit_operator(
+    code: &mut Vec<Instr>,
+    operator: Binary,
+    kind: Kind,
+    a: &Expr,
+    b: &Expr,
+) -> Result<(), Memory>
+    ensures { OnOk result (code.new.items
+        ≡ code.old.items ++ with_operator (joining operator) operator kind (back_code a.now) (back_code b.now) (literal_of b.now) (defaulted_of b.now) (direct_of b.now)) }
+{
+    match joining_of(operator) {
+        Joining::WhereTrue => {
+            let start = code.len();
+            emit(code, b)?;
+            let passed = code.len() - start;
+            put(code, Instr::WhereTrue(passed))?;
+            emit(code, a)
+        }
+        Joining::WhereFalse => {
+            let start = code.len();
+            emit(code, b)?;
+            let passed = code.len() - start;
+            put(code, Instr::WhereFalse(passed))?;
+            emit(code, a)
+        }
+        Joining::Both => emit_operands(code, operator, kind, a, b),
+    }
+}
+
+/// The same of an operator whose operands are both evaluated.
+#[cycle(emit)]
+fn emit_operands(
+    code: &mut Vec<Instr>,
+    operator: Binary,
+    kind: Kind,
+    a: &Expr,
+    b: &Expr,
+) -> Result<(), Memory>
+    ensures { OnOk result (code.new.items
+        ≡ code.old.items ++ with_operands operator kind (back_code a.now) (back_code b.now) (literal_of b.now) (defaulted_of b.now) (direct_of b.now)) }
+{
+    if let Some(v) = literal(b) {
+        put(code, Instr::OperatorGiven(operator, kind, v))?;
+        return emit(code, a);
+    }
+    if let Some((stream, (how, v))) = defaulted(b) {
+        put(code, operator_reading_or(operator, kind, stream, how, v))?;
+        return emit(code, a);
+    }
+    if let Some(stream) = direct(b) {
+        put(code, Instr::OperatorNow(operator, kind, stream))?;
+        return emit(code, a);
+    }
+    let start = code.len();
+    put(code, Instr::Operator(operator, kind))?;
+    emit(code, b)?;
+    let passed = code.len() - start;
+    put(code, Instr::Keep(passed))?;
+    emit(code, a)
+}
+
+/// Puts the code of `if test then a else b` behind other code.
+#[cycle(emit)]
+fn emit_choice(code: &mut Vec<Instr>, test: &Expr, a: &Expr, b: &Expr) -> Result<(), Memory>
+    ensures { OnOk result (code.new.items ≡ code.old.items ++ with_branches (back_code test.now) (back_code a.now) (back_code b.now)) }
+{
+    let start = code.len();
+    emit(code, b)?;
+    let second = code.len() - start;
+    put(code, Instr::Jump(second))?;
+    let middle = code.len();
+    emit(code, a)?;
+    let first = code.len() - middle;
+    let all = code.len() - start;
+    put(code, Instr::Test(first + 1, all))?;
+    emit(code, test)
 }
 
 /// Puts the code of arguments, behind so many others, and of what is asked with all of them behind other code.
