@@ -1,5 +1,5 @@
 -- Instructions that are passed are left out, and values are taken off a stack from its end.
-use Rattle.std.proofs.Common.{◌≡◌, ℕ, zero, suc, ◌≤◌, arith, true, false, refl, sym, ap, ◌∙◌, subst, List, [], ◌∷◌, ◌++◌, length, take, drop, reverse, append_assoc}
+use Rattle.std.proofs.Common.{◌≡◌, ℕ, zero, suc, ◌≤◌, arith, Bool, true, false, refl, sym, ap, ◌∙◌, subst, List, [], ◌∷◌, ◌++◌, length, take, drop, reverse, append_assoc}
 use Rattle.std.proofs.lemmas.List.{reverse-append, length-drop}
 use Rattle.lola_value.specs.declared.value.Value.{Value}
 use Rattle.lola_value.specs.declared.value.Outcome.{Outcome}
@@ -16,6 +16,7 @@ use Rattle.lola_expr.specs.Machine.{Asked, Leads, Operates, or_short, top}
 use Rattle.lola_value.specs.Shorts.{has_value, value_in, widened}
 use Rattle.lola_value.specs.declared.short.Short.{Short}
 use Rattle.lola_value.specs.declared.short.Short.TheVariants as short
+use Rattle.lola_expr.proofs.Shorts.{is_no_value, is_the_value}
 
 pub drop_shorter : (n : ℕ) (is : List Instr) → length (drop n is) ≤ length is
 drop_shorter n is = omega (arith, length-drop n is)
@@ -137,6 +138,20 @@ module _ (remembers : Memories) (s : Seen) (p : Params) (wanted : Outcome → Ty
   no_operand rest operator k x outcome.Missing st ne h = h
   no_operand rest operator k x (outcome.Fault f) st ne h = h
   no_operand rest operator k x outcome.Poison st ne h = h
+
+  -- what stands for the right operand of an operator is one that it takes, if it is a value
+  pub right_fits : (rest : List Instr) (operator : Binary) (k : Kind) (x : Value) (right : Short) (st : List Value) → Goes (instr.Operator operator k ∷ rest) 0 (widened right) (x ∷ st)
+      → has_value right ≡ true → operands_fit operator k x (value_in right) ≡ true
+  right_fits rest operator k x right st h e = (operator_taken rest (instr.Operator operator k) operator k x (value_in right) (widened right) (x ∷ st) st refl (is_the_value right e) refl h).0
+
+  -- and what the operator gives of it comes next
+  pub right_joined : (rest : List Instr) (operator : Binary) (k : Kind) (x : Value) (right result : Short) (st : List Value) → Goes (instr.Operator operator k ∷ rest) 0 (widened right) (x ∷ st)
+      → (has_value right ≡ true → Operates operator k x (value_in right) (widened result)) → (has_value right ≡ false → widened result ≡ widened right) → Goes rest 0 (widened result) st
+  right_joined rest operator k x right result st h value none = by_hand (has_value right) refl
+    where
+      by_hand : (b : Bool) → has_value right ≡ b → Goes rest 0 (widened result) st
+      by_hand true e = (operator_taken rest (instr.Operator operator k) operator k x (value_in right) (widened right) (x ∷ st) st refl (is_the_value right e) refl h).1 (widened result) (value e)
+      by_hand false e = subst (λ o. Goes rest 0 o st) (sym (none e)) (no_operand rest operator k x (widened right) st (is_no_value right e) h)
 
   -- and anything else passes it
   pub true_off : (rest : List Instr) (i : Instr) (n : ℕ) (s : Short) (st : List Value) → i ≡ instr.WhereTrue n → truth_in (value_in s) ≡ false → Goes (i ∷ rest) 0 (widened s) st → Goes rest n (widened s) st

@@ -1,14 +1,15 @@
 //! The machine that runs code: it has one outcome in hand, and the values of operands and arguments on a stack.
 
-ghost use Rattle.std.specs.Prelude.{◌≡◌, ◌≤◌, [], drop, length, slice_get, IfSome, IsTrue};
+ghost use Rattle.std.specs.Prelude.{◌≡◌, ◌≤◌, [], drop, length, slice_get, true, false, IfSome, IsTrue};
 ghost use Rattle.lola_value.specs.Kinds.{is_outcome_of};
 ghost use Rattle.lola_value.specs.Naming.{the_values};
 ghost use Rattle.lola_model.specs.Store.{IsRunning};
 ghost use Rattle.lola_model.specs.Typing.{can_ask, noted};
 ghost use Rattle.lola_expr.specs.Evaluation.{IsDenoted, value_or_missing};
 ghost use Rattle.lola_expr.specs.Code.{code_of};
-ghost use Rattle.lola_expr.specs.Machine.{or_short};
-ghost use Rattle.lola_value.specs.Shorts.{widened};
+ghost use Rattle.lola_expr.specs.Machine.{or_short, Operates};
+ghost use Rattle.lola_expr.specs.Operands.{operands_fit};
+ghost use Rattle.lola_value.specs.Shorts.{has_value, value_in, widened};
 
 use crate::asking::{read_at, read_back, read_newest, read_now, window_at};
 use crate::evaluation::{eval, parameter};
@@ -16,11 +17,11 @@ use crate::instr::Instr;
 use crate::short_operators::{joined, prefixed};
 use crate::stack::Stack;
 use crate::tested::is_true;
-use lola_model::expr::Expr;
+use lola_model::expr::{Binary, Expr};
 use lola_model::store::StreamStore;
 use lola_value::brief::Brief;
 use lola_value::short::{Short, is_value, short_outcome};
-use lola_value::value::Params;
+use lola_value::value::{Kind, Params};
 
 /// What is left of the code behind so many instructions.
 #[tactic(auto, using(crate::proofs::Steps::drop_shorter))]
@@ -53,6 +54,20 @@ fn given(params: &Params, number: u32) -> Option<Short>
     ensures { IfSome result (λ r. widened r ≡ value_or_missing (slice_get (the_values params.now) number)) }
 {
     short_outcome(parameter(params, number))
+}
+
+/// What an operator between a value and a right operand gives: the right operand itself where that is no value.
+#[inline(always)]
+fn joined_with(operator: Binary, kind: Kind, left: Short, right: Short) -> Short
+    requires { has_value right ≡ true → operands_fit operator kind (value_in left) (value_in right) ≡ true }
+    ensures value { has_value right ≡ true → Operates operator kind (value_in left) (value_in right) (widened result) }
+    ensures none { has_value right ≡ false → widened result ≡ widened right }
+{
+    if is_value(right) {
+        joined(operator, kind, left, right)
+    } else {
+        right
+    }
 }
 
 /// Takes so many values off the stack, and lets go of them.
@@ -128,11 +143,7 @@ fn run_code<S: StreamStore>(
                 }
             }
             Instr::Operator(operator, kind) => match stack.pop() {
-                Some(left) => {
-                    if is_value(hand) {
-                        hand = joined(*operator, *kind, left, hand);
-                    }
-                }
+                Some(left) => hand = joined_with(*operator, *kind, left, hand),
                 None => {}
             },
             Instr::OperatorGiven(operator, kind, v) => {
@@ -143,41 +154,25 @@ fn run_code<S: StreamStore>(
             Instr::OperatorNowOr(operator, kind, stream, v) => {
                 if is_value(hand) {
                     let right = or_given(read_now(store, *stream), *v);
-                    if is_value(right) {
-                        hand = joined(*operator, *kind, hand, right);
-                    } else {
-                        hand = right;
-                    }
+                    hand = joined_with(*operator, *kind, hand, right);
                 }
             }
             Instr::OperatorNewestOr(operator, kind, stream, v) => {
                 if is_value(hand) {
                     let right = or_given(read_newest(store, *stream), *v);
-                    if is_value(right) {
-                        hand = joined(*operator, *kind, hand, right);
-                    } else {
-                        hand = right;
-                    }
+                    hand = joined_with(*operator, *kind, hand, right);
                 }
             }
             Instr::OperatorBackOr(operator, kind, stream, k, v) => {
                 if is_value(hand) {
                     let right = or_given(read_back(store, *stream, *k), *v);
-                    if is_value(right) {
-                        hand = joined(*operator, *kind, hand, right);
-                    } else {
-                        hand = right;
-                    }
+                    hand = joined_with(*operator, *kind, hand, right);
                 }
             }
             Instr::OperatorNow(operator, kind, stream) => {
                 if is_value(hand) {
                     let right = read_now(store, *stream);
-                    if is_value(right) {
-                        hand = joined(*operator, *kind, hand, right);
-                    } else {
-                        hand = right;
-                    }
+                    hand = joined_with(*operator, *kind, hand, right);
                 }
             }
             Instr::Otherwise(n) => match hand {
