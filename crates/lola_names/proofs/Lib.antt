@@ -2,6 +2,7 @@ pub mod Growth
 pub mod Numbering
 pub mod TableLemmas
 pub mod TreeLemmas
+mod Operands
 mod RangeLemmas
 pub mod Scopes
 pub mod Pieces

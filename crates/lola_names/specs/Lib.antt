@@ -7,6 +7,7 @@ pub mod Clauses
 pub mod Specification
 pub mod Made
 pub mod Parted
+pub mod Operators
 pub mod Making
 pub mod Ranged
 pub mod Meant

@@ -6,6 +6,7 @@ ghost use Rattle.lola_model.specs.Named.{text_number};
 ghost use Rattle.lola_names.specs.Targets.{target_of};
 ghost use Rattle.lola_names.specs.Resolved.{kind_spelled, aggregation_spelled, place_at, integer_of, prefix_of, binary_of, IsValue, IsLiteral};
 ghost use Rattle.lola_names.specs.Made.{FromNowOn, Grows, GrowsBy, ResolvesTo};
+ghost use Rattle.lola_names.specs.Operators.{IsDefaults, IsUnary, IsBoth, IsChoice};
 ghost use Rattle.lola_names.specs.Parted.{AreResolvedTo, GrowsByAll, IsConstantTo, IsAccessTo, IsNamedTo, IsOpen, GrowsByNamed, items_of};
 
 use crate::made::{Made, number_window};
@@ -248,6 +249,42 @@ fn chained(alloc: Global, mut items: Vec<Expr>) -> Result<Arguments, Memory>
     Ok(rest)
 }
 
+/// An expression with another in its place where it has no value.
+fn defaults(alloc: Global, at: u32, x: Expr, y: Expr) -> Result<Expr, Memory>
+    ensures { IfOk result (IsDefaults at x y) }
+{
+    let a = boxed(alloc, x)?;
+    let b = boxed(alloc, y)?;
+    Ok(Expr::Defaults(bare(at), a, b))
+}
+
+/// An operator before its operand.
+fn unary(alloc: Global, at: u32, operator: tree::Prefix, x: Expr) -> Result<Expr, Memory>
+    ensures { IfOk result (IsUnary at (prefix_of operator) x) }
+{
+    let a = boxed(alloc, x)?;
+    Ok(Expr::Unary(bare(at), prefix(operator), a))
+}
+
+/// An operator between its operands.
+fn both(alloc: Global, at: u32, operator: tree::Binary, x: Expr, y: Expr) -> Result<Expr, Memory>
+    ensures { IfOk result (IsBoth at (binary_of operator) x y) }
+{
+    let a = boxed(alloc, x)?;
+    let b = boxed(alloc, y)?;
+    Ok(Expr::Both(bare(at), binary(operator), a, b))
+}
+
+/// A condition with what holds where it is true and where it is false.
+fn choice(alloc: Global, at: u32, test: Expr, x: Expr, y: Expr) -> Result<Expr, Memory>
+    ensures { IfOk result (IsChoice at test x y) }
+{
+    let t = boxed(alloc, test)?;
+    let a = boxed(alloc, x)?;
+    let b = boxed(alloc, y)?;
+    Ok(Expr::Choice(bare(at), t, a, b))
+}
+
 /// An expression resolved, where it stands in this scope. Texts and windows are numbered in the order of the text.
 #[cycle(expression)]
 pub fn expression(
@@ -281,30 +318,22 @@ pub fn expression(
         tree::Expr::Defaults(at, x, y) => {
             let first = expression(alloc, scope, x.get(), made)?;
             let second = expression(alloc, scope, y.get(), made)?;
-            let a = boxed(alloc, first)?;
-            let b = boxed(alloc, second)?;
-            Ok(Expr::Defaults(bare(*at), a, b))
+            defaults(alloc, *at, first, second)
         }
         tree::Expr::Prefix(operator, at, x) => {
             let operand = expression(alloc, scope, x.get(), made)?;
-            let a = boxed(alloc, operand)?;
-            Ok(Expr::Unary(bare(*at), prefix(*operator), a))
+            unary(alloc, *at, *operator, operand)
         }
         tree::Expr::Binary(operator, at, x, y) => {
             let first = expression(alloc, scope, x.get(), made)?;
             let second = expression(alloc, scope, y.get(), made)?;
-            let a = boxed(alloc, first)?;
-            let b = boxed(alloc, second)?;
-            Ok(Expr::Both(bare(*at), binary(*operator), a, b))
+            both(alloc, *at, *operator, first, second)
         }
         tree::Expr::If(at, x, y, z) => {
             let test = expression(alloc, scope, x.get(), made)?;
             let first = expression(alloc, scope, y.get(), made)?;
             let second = expression(alloc, scope, z.get(), made)?;
-            let t = boxed(alloc, test)?;
-            let a = boxed(alloc, first)?;
-            let b = boxed(alloc, second)?;
-            Ok(Expr::Choice(bare(*at), t, a, b))
+            choice(alloc, *at, test, first, second)
         }
     }
 }

@@ -102,15 +102,21 @@ fn too_many_streams(
     Ok(())
 }
 
+/// Notes all refusals of names.
+fn note_all(alloc: Global, declarations: &[Declaration], found: &mut Refusals) -> Result<(), Memory>
+    ensures { OnOk result (Finds (refusals_of declarations.now) found.old found.new) }
+{
+    let names = names(alloc, declarations, found)?;
+    too_many_inputs(alloc, declarations, found)?;
+    too_many_streams(alloc, declarations, found)?;
+    all_uses(alloc, &names, declarations, found)
+}
+
 /// The first refusal of the names of a specification, if there is one: by place, and at one place by code.
 pub fn name_refusal(alloc: Global, ast: &Ast) -> Result<Option<Refusal>, Memory>
     ensures { IfOk result (λ refusal. refusal ≡ first_of (refusals_of ast.now)) }
 {
-    let declarations = ast.as_slice();
     let mut found = Refusals::none();
-    let names = names(alloc, declarations, &mut found)?;
-    too_many_inputs(alloc, declarations, &mut found)?;
-    too_many_streams(alloc, declarations, &mut found)?;
-    all_uses(alloc, &names, declarations, &mut found)?;
+    note_all(alloc, ast.as_slice(), &mut found)?;
     Ok(found.first())
 }

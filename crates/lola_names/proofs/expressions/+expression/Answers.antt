@@ -6,7 +6,8 @@ use Rattle.lola_model.specs.declared.expr.Place.{Place}
 use Rattle.lola_model.specs.declared.expr.Expr.{Expr}
 use Rattle.lola_model.specs.declared.expr.Expr.TheVariants as m
 use Rattle.lola_model.specs.declared.expr.Arguments.{Arguments}
-use Rattle.lola_names.specs.Resolved.{IsLiteral}
+use Rattle.lola_names.specs.Resolved.{IsLiteral, prefix_of, binary_of}
+use Rattle.lola_names.specs.Operators.{IsDefaults, IsUnary, IsBoth, IsChoice}
 use Rattle.lola_names.specs.Made.{Grows, GrowsBy, ResolvesTo}
 use Rattle.lola_names.specs.Parted.{AreResolvedTo, GrowsByAll, IsNamedTo, GrowsByNamed, items_of}
 use Rattle.lola_names.specs.declared.expressions.Named.{Named}
@@ -15,7 +16,8 @@ use Rattle.lola_names.specs.declared.made.Made.{Made}
 use Rattle.lola_names.specs.declared.scope.Scope.{Scope}
 use Rattle.lola_names.specs.declared.targets.Target.{Target}
 use Rattle.lola_names.proofs.Growth.{grows_none, grows_then}
-use Rattle.lola_names.proofs.TreeLemmas.{SoFar, so_far_turn, so_far_end, later, carried, grows_pushed, grows_arguments, named_target, resolves-Whole, resolves-Open, resolves-Prefix, resolves-Defaults, resolves-Binary, resolves-If}
+use Rattle.lola_names.proofs.TreeLemmas.{SoFar, so_far_turn, so_far_end, later, carried, grows_pushed, grows_arguments, named_target, resolves-Whole, resolves-Open}
+use Rattle.lola_names.proofs.Operands.{unary_resolves, defaults_resolve, both_resolve, choice_resolves, unary_grows, defaults_grow, both_grow_by, choice_grows}
 use Rattle.lola_names.proofs.expressions.+expression.Goals as goal
 
 -- arguments
@@ -129,76 +131,81 @@ expression-returns-in_ok-arguments-in-Window-clause-grown t c =
 
 -- operators
 
-same_growth : (old new : Made) (r r' : Expr) → r' ≡ r → GrowsBy old new r → GrowsBy old new r'
-same_growth old new r r' is g = subst (λ (q : Expr). GrowsBy old new q) (sym is) g
-
-both_grow : (old mid new : Made) (r r' s s' : Expr) → r' ≡ r → s' ≡ s → GrowsBy old mid r → GrowsBy mid new s
-    → Grows old new (listed window_number r' ++ listed window_number s') (listed literal_text r' ++ listed literal_text s')
-both_grow old mid new r r' s s' is so g h =
-    grows_then old mid new (listed window_number r') (listed literal_text r') (listed window_number s') (listed literal_text s') (same_growth old mid r r' is g) (same_growth mid new s s' so h)
-
-pub expression-returns-in_ok-a-in-Prefix-clause-resolved : goal.expression-returns-in_ok-a-in-Prefix-clause-resolved
-expression-returns-in_ok-a-in-Prefix-clause-resolved t c =
+pub expression-returns-in_ok-operand-in-Prefix-clause-resolved : goal.expression-returns-in_ok-operand-in-Prefix-clause-resolved
+expression-returns-in_ok-operand-in-Prefix-clause-resolved t c =
     let b = c.in-Prefix in
     let scope = c.args.scope.now in
     let new = c.expression-in-Prefix.new.made in
     let first = c.in_ok-operand-in-Prefix in
-    let a = c.in_ok-a-in-Prefix in
-    let r : Expr = m.Unary c.bare-in-Prefix.result c.prefix.result a.a in
-    subst (λ (x : TreeExpr). ResolvesTo scope new x r) (sym b.is)
-    (resolves-Prefix scope new b.operator b.at b.x c.bare-in-Prefix.result c.prefix.result _ a.a.value c.bare-in-Prefix.ensures c.prefix.ensures
-    (carried scope new b.x c.get-in-Prefix.result.now first.operand a.a.value c.get-in-Prefix.ensures a.ensures first.ensures.resolved))
+    if_ok c.unary.result (IsUnary b.at (prefix_of b.operator) first.operand) (ResolvesTo scope new c.args.x.now)
+    (λ r is. subst (λ (x : TreeExpr). ResolvesTo scope new x r) (sym b.is)
+    (unary_resolves scope new b.operator b.at b.x first.operand r (carried scope new b.x c.get-in-Prefix.result.now first.operand first.operand c.get-in-Prefix.ensures refl first.ensures.resolved) is))
+    c.unary.ensures
 
-pub expression-returns-in_ok-b-in-Defaults-clause-resolved : goal.expression-returns-in_ok-b-in-Defaults-clause-resolved
-expression-returns-in_ok-b-in-Defaults-clause-resolved t c =
+pub expression-returns-in_ok-operand-in-Prefix-clause-grown : goal.expression-returns-in_ok-operand-in-Prefix-clause-grown
+expression-returns-in_ok-operand-in-Prefix-clause-grown t c =
+    let b = c.in-Prefix in
+    let old = c.args.made.now in
+    let new = c.expression-in-Prefix.new.made in
+    let first = c.in_ok-operand-in-Prefix in
+    if_ok c.unary.result (IsUnary b.at (prefix_of b.operator) first.operand) (GrowsBy old new) (λ r is. unary_grows old new b.at (prefix_of b.operator) first.operand r first.ensures.grown is) c.unary.ensures
+
+pub expression-returns-in_ok-second-in-Defaults-clause-resolved : goal.expression-returns-in_ok-second-in-Defaults-clause-resolved
+expression-returns-in_ok-second-in-Defaults-clause-resolved t c =
     let b = c.in-Defaults in
     let scope = c.args.scope.now in
     let mid = c.expression.new.made in
     let new = c.expression-in-Defaults.new.made in
     let first = c.in_ok-first-in-Defaults in
     let second = c.in_ok-second-in-Defaults in
-    let p = c.in_ok-a-in-Defaults in
-    let q = c.in_ok-b-in-Defaults in
-    let r : Expr = m.Defaults c.bare-in-Defaults.result p.a q.b in
-    subst (λ (x : TreeExpr). ResolvesTo scope new x r) (sym b.is)
-    (resolves-Defaults scope new b.at b.x b.y c.bare-in-Defaults.result _ p.a.value _ q.b.value c.bare-in-Defaults.ensures
-    (later scope mid new (listed window_number second.second) (listed literal_text second.second) b.x p.a.value second.ensures.grown
-    (carried scope mid b.x c.get.result.now first.first p.a.value c.get.ensures p.ensures first.ensures.resolved))
-    (carried scope new b.y c.get-in-Defaults.result.now second.second q.b.value c.get-in-Defaults.ensures q.ensures second.ensures.resolved))
+    if_ok c.defaults.result (IsDefaults b.at first.first second.second) (ResolvesTo scope new c.args.x.now)
+    (λ r is. subst (λ (x : TreeExpr). ResolvesTo scope new x r) (sym b.is)
+    (defaults_resolve scope new b.at b.x b.y first.first second.second r
+    (later scope mid new (listed window_number second.second) (listed literal_text second.second) b.x first.first second.ensures.grown
+    (carried scope mid b.x c.get.result.now first.first first.first c.get.ensures refl first.ensures.resolved))
+    (carried scope new b.y c.get-in-Defaults.result.now second.second second.second c.get-in-Defaults.ensures refl second.ensures.resolved) is))
+    c.defaults.ensures
 
-pub expression-returns-in_ok-b-in-Defaults-clause-grown : goal.expression-returns-in_ok-b-in-Defaults-clause-grown
-expression-returns-in_ok-b-in-Defaults-clause-grown t c =
+pub expression-returns-in_ok-second-in-Defaults-clause-grown : goal.expression-returns-in_ok-second-in-Defaults-clause-grown
+expression-returns-in_ok-second-in-Defaults-clause-grown t c =
+    let b = c.in-Defaults in
+    let old = c.args.made.now in
+    let mid = c.expression.new.made in
+    let new = c.expression-in-Defaults.new.made in
     let first = c.in_ok-first-in-Defaults in
     let second = c.in_ok-second-in-Defaults in
-    both_grow c.args.made.now c.expression.new.made c.expression-in-Defaults.new.made first.first c.in_ok-a-in-Defaults.a.value second.second c.in_ok-b-in-Defaults.b.value
-    c.in_ok-a-in-Defaults.ensures c.in_ok-b-in-Defaults.ensures first.ensures.grown second.ensures.grown
+    if_ok c.defaults.result (IsDefaults b.at first.first second.second) (GrowsBy old new)
+    (λ r is. defaults_grow old mid new b.at first.first second.second r first.ensures.grown second.ensures.grown is) c.defaults.ensures
 
-pub expression-returns-in_ok-b-in-Binary-clause-resolved : goal.expression-returns-in_ok-b-in-Binary-clause-resolved
-expression-returns-in_ok-b-in-Binary-clause-resolved t c =
+pub expression-returns-in_ok-second-in-Binary-clause-resolved : goal.expression-returns-in_ok-second-in-Binary-clause-resolved
+expression-returns-in_ok-second-in-Binary-clause-resolved t c =
     let b = c.in-Binary in
     let scope = c.args.scope.now in
     let mid = c.expression-in-Binary.new.made in
     let new = c.expression-in-Binary-2.new.made in
     let first = c.in_ok-first-in-Binary in
     let second = c.in_ok-second-in-Binary in
-    let p = c.in_ok-a-in-Binary in
-    let q = c.in_ok-b-in-Binary in
-    let r : Expr = m.Both c.bare-in-Binary.result c.binary.result p.a q.b in
-    subst (λ (x : TreeExpr). ResolvesTo scope new x r) (sym b.is)
-    (resolves-Binary scope new b.operator b.at b.x b.y c.bare-in-Binary.result c.binary.result _ p.a.value _ q.b.value c.bare-in-Binary.ensures c.binary.ensures
-    (later scope mid new (listed window_number second.second) (listed literal_text second.second) b.x p.a.value second.ensures.grown
-    (carried scope mid b.x c.get-in-Binary.result.now first.first p.a.value c.get-in-Binary.ensures p.ensures first.ensures.resolved))
-    (carried scope new b.y c.get-in-Binary-2.result.now second.second q.b.value c.get-in-Binary-2.ensures q.ensures second.ensures.resolved))
+    if_ok c.both.result (IsBoth b.at (binary_of b.operator) first.first second.second) (ResolvesTo scope new c.args.x.now)
+    (λ r is. subst (λ (x : TreeExpr). ResolvesTo scope new x r) (sym b.is)
+    (both_resolve scope new b.operator b.at b.x b.y first.first second.second r
+    (later scope mid new (listed window_number second.second) (listed literal_text second.second) b.x first.first second.ensures.grown
+    (carried scope mid b.x c.get-in-Binary.result.now first.first first.first c.get-in-Binary.ensures refl first.ensures.resolved))
+    (carried scope new b.y c.get-in-Binary-2.result.now second.second second.second c.get-in-Binary-2.ensures refl second.ensures.resolved) is))
+    c.both.ensures
 
-pub expression-returns-in_ok-b-in-Binary-clause-grown : goal.expression-returns-in_ok-b-in-Binary-clause-grown
-expression-returns-in_ok-b-in-Binary-clause-grown t c =
+pub expression-returns-in_ok-second-in-Binary-clause-grown : goal.expression-returns-in_ok-second-in-Binary-clause-grown
+expression-returns-in_ok-second-in-Binary-clause-grown t c =
+    let b = c.in-Binary in
+    let old = c.args.made.now in
+    let mid = c.expression-in-Binary.new.made in
+    let new = c.expression-in-Binary-2.new.made in
     let first = c.in_ok-first-in-Binary in
     let second = c.in_ok-second-in-Binary in
-    both_grow c.args.made.now c.expression-in-Binary.new.made c.expression-in-Binary-2.new.made first.first c.in_ok-a-in-Binary.a.value second.second c.in_ok-b-in-Binary.b.value
-    c.in_ok-a-in-Binary.ensures c.in_ok-b-in-Binary.ensures first.ensures.grown second.ensures.grown
+    if_ok c.both.result (IsBoth b.at (binary_of b.operator) first.first second.second) (GrowsBy old new)
+    (λ r is. both_grow_by old mid new b.at (binary_of b.operator) first.first second.second r first.ensures.grown second.ensures.grown is) c.both.ensures
 
-pub expression-returns-in_ok-b-in-If-clause-resolved : goal.expression-returns-in_ok-b-in-If-clause-resolved
-expression-returns-in_ok-b-in-If-clause-resolved t c =
+pub expression-returns-in_ok-second-in-If-clause-resolved : goal.expression-returns-in_ok-second-in-If-clause-resolved
+expression-returns-in_ok-second-in-If-clause-resolved t c =
     let b = c.in-If in
     let scope = c.args.scope.now in
     let one = c.expression-in-If.new.made in
@@ -207,28 +214,27 @@ expression-returns-in_ok-b-in-If-clause-resolved t c =
     let test = c.in_ok-test-in-If in
     let first = c.in_ok-first-in-If in
     let second = c.in_ok-second-in-If in
-    let o = c.in_ok-t-in-If in
-    let p = c.in_ok-a-in-If in
-    let q = c.in_ok-b-in-If in
-    let r : Expr = m.Choice c.bare-in-If.result o.t p.a q.b in
     let last = second.ensures.grown in
-    subst (λ (x : TreeExpr). ResolvesTo scope new x r) (sym b.is)
-    (resolves-If scope new b.at b.x b.y b.z c.bare-in-If.result _ o.t.value _ p.a.value _ q.b.value c.bare-in-If.ensures
-    (later scope two new (listed window_number second.second) (listed literal_text second.second) b.x o.t.value last
-    (later scope one two (listed window_number first.first) (listed literal_text first.first) b.x o.t.value first.ensures.grown
-    (carried scope one b.x c.get-in-If.result.now test.test o.t.value c.get-in-If.ensures o.ensures test.ensures.resolved)))
-    (later scope two new (listed window_number second.second) (listed literal_text second.second) b.y p.a.value last
-    (carried scope two b.y c.get-in-If-2.result.now first.first p.a.value c.get-in-If-2.ensures p.ensures first.ensures.resolved))
-    (carried scope new b.z c.get-in-If-3.result.now second.second q.b.value c.get-in-If-3.ensures q.ensures second.ensures.resolved))
+    if_ok c.choice.result (IsChoice b.at test.test first.first second.second) (ResolvesTo scope new c.args.x.now)
+    (λ r is. subst (λ (x : TreeExpr). ResolvesTo scope new x r) (sym b.is)
+    (choice_resolves scope new b.at b.x b.y b.z test.test first.first second.second r
+    (later scope two new (listed window_number second.second) (listed literal_text second.second) b.x test.test last
+    (later scope one two (listed window_number first.first) (listed literal_text first.first) b.x test.test first.ensures.grown
+    (carried scope one b.x c.get-in-If.result.now test.test test.test c.get-in-If.ensures refl test.ensures.resolved)))
+    (later scope two new (listed window_number second.second) (listed literal_text second.second) b.y first.first last
+    (carried scope two b.y c.get-in-If-2.result.now first.first first.first c.get-in-If-2.ensures refl first.ensures.resolved))
+    (carried scope new b.z c.get-in-If-3.result.now second.second second.second c.get-in-If-3.ensures refl second.ensures.resolved) is))
+    c.choice.ensures
 
-pub expression-returns-in_ok-b-in-If-clause-grown : goal.expression-returns-in_ok-b-in-If-clause-grown
-expression-returns-in_ok-b-in-If-clause-grown t c =
+pub expression-returns-in_ok-second-in-If-clause-grown : goal.expression-returns-in_ok-second-in-If-clause-grown
+expression-returns-in_ok-second-in-If-clause-grown t c =
+    let b = c.in-If in
     let test = c.in_ok-test-in-If in
     let first = c.in_ok-first-in-If in
     let second = c.in_ok-second-in-If in
-    let r = c.in_ok-t-in-If.t.value in
-    let rest = both_grow c.expression-in-If.new.made c.expression-in-If-2.new.made c.expression-in-If-3.new.made first.first c.in_ok-a-in-If.a.value second.second c.in_ok-b-in-If.b.value
-    c.in_ok-a-in-If.ensures c.in_ok-b-in-If.ensures first.ensures.grown second.ensures.grown in
-    grows_then c.args.made.now c.expression-in-If.new.made c.expression-in-If-3.new.made (listed window_number r) (listed literal_text r)
-    (listed window_number c.in_ok-a-in-If.a.value ++ listed window_number c.in_ok-b-in-If.b.value) (listed literal_text c.in_ok-a-in-If.a.value ++ listed literal_text c.in_ok-b-in-If.b.value)
-    (same_growth c.args.made.now c.expression-in-If.new.made test.test r c.in_ok-t-in-If.ensures test.ensures.grown) rest
+    let old = c.args.made.now in
+    let one = c.expression-in-If.new.made in
+    let two = c.expression-in-If-2.new.made in
+    let new = c.expression-in-If-3.new.made in
+    if_ok c.choice.result (IsChoice b.at test.test first.first second.second) (GrowsBy old new)
+    (λ r is. choice_grows old one two new b.at test.test first.first second.second r test.ensures.grown first.ensures.grown second.ensures.grown is) c.choice.ensures
