@@ -1,24 +1,22 @@
 -- Clauses from their parts.
-use Rattle.std.proofs.Common.{◌≡◌, ℕ, ◌+◌, ◌<◌, ◌≤◌, List, [], ◌∷◌, ◌++◌, Option, Some, None, length, get_or, drop, map, refl, sym, ap, subst, ◌∙◌, append_assoc, append-nil}
+use Rattle.std.proofs.Common.{◌≡◌, ℕ, ◌+◌, ◌<◌, ◌≤◌, List, [], ◌∷◌, ◌++◌, Option, Some, None, length, get_or, drop, map, refl, sym, subst, append_assoc, append-nil}
 use Rattle.lola_parser_grammar.specs.declared.clauses.Part.{Part as TreePart}
-use Rattle.lola_parser_grammar.specs.declared.clauses.Spawn.{Spawn}
 use Rattle.lola_parser_grammar.specs.declared.clauses.Eval.{Eval}
 use Rattle.lola_parser_grammar.specs.declared.clauses.Close.{Close}
 use Rattle.lola_parser_grammar.specs.declared.declarations.Trigger.{Trigger}
 use Rattle.lola_parser_grammar.specs.declared.pacing.Pacing.{Pacing}
-use Rattle.lola_model.specs.Parts.{listed_with}
 use Rattle.lola_model.specs.Named.{window_number, literal_text}
 use Rattle.lola_model.specs.declared.expr.Expr.{Expr}
 use Rattle.lola_model.specs.declared.spec.Clause.{Clause}
 use Rattle.lola_model.specs.declared.spec.WindowSpec.{WindowSpec}
-use Rattle.lola_names.specs.Clauses.{ArePartsOf, IsPart, IsOptional, IsSpawn, IsEval, IsClose, IsTriggerClause, place_before}
-use Rattle.lola_names.specs.Made.{Grows, GrowsBy, IsPacingBy, ResolvesTo, IsScope, standing_in}
+use Rattle.lola_names.specs.Clauses.{ArePartsOf, IsPart, IsOptional, place_before}
+use Rattle.lola_names.specs.Made.{Grows, GrowsBy, IsPacingBy, ResolvesTo, standing_in}
 use Rattle.lola_names.specs.Targets.{Targets}
 use Rattle.lola_names.specs.Resolved.{Standing}
 use Rattle.lola_names.specs.declared.made.Made.{Made}
 use Rattle.lola_names.specs.declared.scope.Scope.{Scope}
 use Rattle.lola_names.proofs.Growth.{begin_before, grows_none, grows_then}
-use Rattle.lola_names.specs.Making.{CloseIn, EvalIn, GrowsByWith, IsOfParts, OfPartsIn, PartsBegun, PartsIn, SpawnIn, TriggerIn, WhenIn}
+use Rattle.lola_names.specs.Making.{CloseIn, EvalIn, GrowsByWith, OfPartsIn, PartsBegun, PartsIn, TriggerIn, WhenIn}
 use Rattle.lola_names.proofs.Pieces.{grows_as, left_more, left_none, listed_with-push}
 
 -- ---- expressions behind `with`

@@ -5,7 +5,7 @@ use Rattle.lola_model.specs.Parts.{listed, listed_with, listed_stream, listed_st
 use Rattle.lola_model.specs.declared.expr.Expr.{Expr}
 use Rattle.lola_model.specs.declared.spec.Stream.{Stream}
 use Rattle.lola_model.specs.declared.spec.WindowSpec.{WindowSpec}
-use Rattle.lola_names.specs.Made.{Grows, BeginWith, FromNowOn}
+use Rattle.lola_names.specs.Made.{Grows, BeginWith}
 use Rattle.lola_names.specs.Targets.{Targets}
 use Rattle.lola_names.specs.Resolved.{Standing}
 use Rattle.lola_names.specs.declared.made.Made.{Made}

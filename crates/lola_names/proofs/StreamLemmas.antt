@@ -1,5 +1,5 @@
 -- Streams from their clauses, and the streams of all declarations.
-use Rattle.std.proofs.Common.{◌≡◌, ℕ, zero, suc, ◌+◌, ◌<◌, ◌≤◌, List, [], ◌∷◌, ◌++◌, length, get_or, drop, map, refl, sym, ap, subst, ◌∙◌, append_assoc, append-nil, add-zero, length-append}
+use Rattle.std.proofs.Common.{◌≡◌, ℕ, suc, ◌+◌, ◌<◌, ◌≤◌, List, [], ◌∷◌, ◌++◌, length, get_or, drop, map, refl, sym, ap, subst, ◌∙◌, append_assoc, append-nil, add-zero, length-append}
 use Rattle.lola_parser_grammar.specs.declared.literals.Typed.{Typed}
 use Rattle.lola_parser_grammar.specs.declared.declarations.Inputs.{Inputs}
 use Rattle.lola_parser_grammar.specs.declared.declarations.Constant.{Constant as TreeConstant}

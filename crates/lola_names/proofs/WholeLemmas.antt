@@ -7,7 +7,7 @@ use Rattle.lola_parser_grammar.specs.declared.declarations.Declaration.TheVarian
 use Rattle.lola_model.specs.Refusals.{first_of, IsFirstIn, IsFirstOf}
 use Rattle.lola_model.proofs.FirstRefusal.{means_first}
 use Rattle.lola_model.specs.Parts.{listed_streams}
-use Rattle.lola_model.specs.Named.{are_distinct, counted, window_number, literal_text}
+use Rattle.lola_model.specs.Named.{are_distinct, counted, literal_text}
 use Rattle.lola_model.specs.declared.spec.Constant.{Constant}
 use Rattle.lola_model.specs.declared.spec.Stream.{Stream}
 use Rattle.lola_model.specs.declared.spec.WindowSpec.{WindowSpec}

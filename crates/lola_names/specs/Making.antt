@@ -1,5 +1,5 @@
 -- Clauses and streams that are made while texts and windows grow.
-use Rattle.std.specs.Prelude.{ℕ, ◌≡◌, ◌+◌, List, [], ◌∷◌, ◌++◌, Option, Some, None, length, map}
+use Rattle.std.specs.Prelude.{ℕ, ◌≡◌, ◌+◌, List, [], ◌∷◌, ◌++◌, Option, length, map}
 use Rattle.lola_parser_grammar.specs.declared.literals.Typed.{Typed}
 use Rattle.lola_parser_grammar.specs.declared.pacing.Pacing.{Pacing}
 use Rattle.lola_parser_grammar.specs.declared.clauses.Part.{Part as TreePart}

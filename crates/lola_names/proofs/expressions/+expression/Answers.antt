@@ -8,14 +8,14 @@ use Rattle.lola_model.specs.declared.expr.Expr.TheVariants as m
 use Rattle.lola_model.specs.declared.expr.Arguments.{Arguments}
 use Rattle.lola_names.specs.Resolved.{IsLiteral, prefix_of, binary_of}
 use Rattle.lola_names.specs.Operators.{IsDefaults, IsUnary, IsBoth, IsChoice}
-use Rattle.lola_names.specs.Made.{Grows, GrowsBy, ResolvesTo}
+use Rattle.lola_names.specs.Made.{GrowsBy, ResolvesTo}
 use Rattle.lola_names.specs.Parted.{AreResolvedTo, GrowsByAll, IsNamedTo, GrowsByNamed, items_of}
 use Rattle.lola_names.specs.declared.expressions.Named.{Named}
 use Rattle.lola_names.specs.declared.expressions.Named.TheVariants as named
 use Rattle.lola_names.specs.declared.made.Made.{Made}
 use Rattle.lola_names.specs.declared.scope.Scope.{Scope}
 use Rattle.lola_names.specs.declared.targets.Target.{Target}
-use Rattle.lola_names.proofs.Growth.{grows_none, grows_then}
+use Rattle.lola_names.proofs.Growth.{grows_none}
 use Rattle.lola_names.proofs.TreeLemmas.{SoFar, so_far_turn, so_far_end, later, carried, grows_pushed, grows_arguments, named_target, resolves-Whole, resolves-Open}
 use Rattle.lola_names.proofs.Operands.{unary_resolves, defaults_resolve, both_resolve, choice_resolves, unary_grows, defaults_grow, both_grow_by, choice_grows}
 use Rattle.lola_names.proofs.expressions.+expression.Goals as goal
