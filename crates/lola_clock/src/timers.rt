@@ -15,7 +15,7 @@ pub(crate) const TOO_LATE: u64 = 4_000_000_000_000_000_001;
 
 /// A rate, the moment of its first deadline that is not passed, and what it takes to go to the one behind that: what cutting the deadline
 /// to whole nanoseconds left, and a period, in whole nanoseconds and in parts of one. As many parts as the rate's numerator are one.
-#[derive(Clone, Copy, Debug)]
+#[derive(Clone, Copy)]
 pub(crate) struct Timer {
     pub(crate) rate: Rate,
     pub(crate) due: u64,
@@ -25,7 +25,7 @@ pub(crate) struct Timer {
 }
 
 // A deadline as a moment, and what cutting it to whole nanoseconds left.
-#[derive(Clone, Copy, Debug)]
+#[derive(Clone, Copy)]
 struct Moment {
     due: u64,
     rest: u64,

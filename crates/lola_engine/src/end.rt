@@ -3,7 +3,7 @@
 use lola_value::value::FaultKind;
 
 /// Why an engine runs no more rows.
-#[derive(Clone, Copy, Debug, PartialEq, Eq)]
+#[derive(Clone, Copy)]
 pub enum EngineEnd {
     /// A step has a fault: the first stream with a fault of its own, the fault's kind, and the step's time in nanoseconds.
     Fault {
@@ -16,7 +16,7 @@ pub enum EngineEnd {
 }
 
 /// What an engine has counted.
-#[derive(Clone, Copy, Debug, PartialEq, Eq)]
+#[derive(Clone, Copy)]
 pub struct Counts {
     /// The steps that were run without a fault: of accepted rows, and of deadlines.
     pub steps: u64,
@@ -25,7 +25,7 @@ pub struct Counts {
 }
 
 /// The texts of an engine.
-#[derive(Clone, Copy, Debug, PartialEq, Eq)]
+#[derive(Clone, Copy)]
 pub struct TextCounts {
     /// The texts that it holds.
     pub held: u64,

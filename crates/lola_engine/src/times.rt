@@ -4,7 +4,7 @@ ghost use Rattle.std.specs.Prelude.{◌≡◌};
 ghost use Rattle.lola_engine.specs.Resuming.{merge_start};
 
 /// How far a run has come, as far as times and steps tell: what an engine needs to go on from there, beside a store and texts.
-#[derive(Clone, Copy, Debug, PartialEq, Eq)]
+#[derive(Clone, Copy)]
 pub struct RunTimes {
     /// Where time counts from: the start that was given, or the stamp of the first accepted row. In nanoseconds.
     pub start: Option<u64>,

@@ -14,7 +14,7 @@ use lola_rows::EmptyReader;
 use lola_value::words::word_at;
 
 /// Why not all sources were fetched.
-#[derive(Clone, Copy, Debug, PartialEq, Eq)]
+#[derive(Clone, Copy)]
 pub enum FetchStop {
     /// The source of this number was not given.
     Failed(u32),

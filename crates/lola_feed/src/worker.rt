@@ -13,7 +13,7 @@ use lola_rows::{Ending, RowAnswer, RowReader};
 use std::marker::Model;
 
 /// How a source's worker ended.
-#[derive(Clone, Copy, Debug, PartialEq, Eq)]
+#[derive(Clone, Copy)]
 pub enum SourceEnd {
     /// All rows were let in.
     End,
@@ -28,7 +28,7 @@ pub enum SourceEnd {
 }
 
 /// What a turn did.
-#[derive(Clone, Copy, Debug, PartialEq, Eq)]
+#[derive(Clone, Copy)]
 pub enum TurnEnd {
     /// A row was let in.
     Moved,

@@ -11,7 +11,7 @@ use lola_value::rate::Rate;
 use std::collections::VecDeque;
 
 /// The birth of an instance, and its next deadline.
-#[derive(Clone, Copy, Debug)]
+#[derive(Clone, Copy)]
 pub struct Birth {
     pub due: u64,
     pub born: u64,

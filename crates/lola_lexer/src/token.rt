@@ -4,7 +4,7 @@ use crate::shape::TokenShape;
 use lola_value::list::ListOf;
 
 /// A token, and where it stands in the text: its first byte, and the place behind its last one, in bytes from 0.
-#[derive(Clone, Copy, Debug, PartialEq, Eq)]
+#[derive(Clone, Copy)]
 pub struct Token {
     pub shape: TokenShape,
     pub from: u32,

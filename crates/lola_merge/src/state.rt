@@ -25,7 +25,7 @@ pub enum Offer {
 }
 
 /// What became of taking all pending rows.
-#[derive(Clone, Copy, Debug, PartialEq, Eq)]
+#[derive(Clone, Copy, PartialEq)]
 pub enum Take {
     /// So many rows moved.
     Rows(u32),

@@ -15,7 +15,7 @@ use std::collections::VecDeque;
 use std::marker::Model;
 
 /// Whose turn it is.
-#[derive(Clone, Copy, Debug, PartialEq, Eq)]
+#[derive(Clone, Copy)]
 pub enum Actor {
     /// The source of this number.
     Source(u32),

@@ -8,7 +8,7 @@ use lola_value::front::{Code, Refusal};
 use std::marker::Model;
 
 /// What a phase found so far: the refusal that comes first by place, and at one place by the number of its code.
-#[derive(Debug, Drop)]
+#[derive(Drop)]
 pub struct Refusals {
     first: Option<Refusal>,
 }

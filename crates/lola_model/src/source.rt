@@ -2,7 +2,7 @@
 
 /// Why a source ends at a line that is no row. The kinds are numbered from 1 in this order; a
 /// source ends at its first such line, and the rows before it are its rows.
-#[derive(Clone, Copy, Debug, PartialEq, Eq)]
+#[derive(Clone, Copy)]
 pub enum MalformedKind {
     /// No line at all, not one time column, an input named twice, or a second byte order mark.
     BadHeading = 1,

@@ -26,7 +26,7 @@ use lola_value::value::{Outcome, Params, Value};
 use std::thread::Threads;
 
 /// What became of an instance that a spawn clause names.
-#[derive(Clone, Copy, Debug, PartialEq, Eq)]
+#[derive(Clone, Copy)]
 pub enum SpawnEnd {
     /// The instance lives from this step on.
     Born,
@@ -37,7 +37,7 @@ pub enum SpawnEnd {
 }
 
 /// Where an instance stands that is looked for by its parameters, among the instances of its stream in order of birth.
-#[derive(Clone, Copy, Debug, PartialEq, Eq)]
+#[derive(Clone, Copy)]
 pub enum Whereabouts {
     /// At this place, and at no other.
     At(u32),

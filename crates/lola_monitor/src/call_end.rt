@@ -7,7 +7,7 @@ use lola_value::front::Refusal;
 use lola_value::text::Text;
 
 /// Why there is no plan.
-#[derive(Clone, Copy, Debug, PartialEq, Eq)]
+#[derive(Clone, Copy)]
 pub enum Unplanned {
     /// The specification was not given, or could not be read.
     Unreadable,
@@ -17,7 +17,7 @@ pub enum Unplanned {
 }
 
 /// Why there is no engine that goes on from a state.
-#[derive(Clone, Copy, Debug, PartialEq, Eq)]
+#[derive(Clone, Copy)]
 pub enum Unloaded {
     /// The state was not read, or is refused.
     Stated(StateEnd),

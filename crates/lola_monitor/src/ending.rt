@@ -17,7 +17,7 @@ use lola_value::value::FaultKind;
 use std::alloc::Global;
 
 /// How the sources of a run ended together. A failed read comes before a malformed line, and of several the least is named.
-#[derive(Clone, Copy, Debug, PartialEq, Eq)]
+#[derive(Clone, Copy)]
 pub enum SourcesEnd {
     /// Each source ended well.
     Whole,

@@ -58,7 +58,7 @@ pub struct SnapshotCommand {
 }
 
 /// What the words say of a drill.
-#[derive(Clone, Copy, Debug, PartialEq, Eq)]
+#[derive(Clone, Copy)]
 pub struct DrillCommand {
     /// The number that all rows come from, at most 2147483646.
     pub number: u64,
@@ -69,7 +69,7 @@ pub struct DrillCommand {
 }
 
 /// What the words say of a replay.
-#[derive(Clone, Copy, Debug, PartialEq, Eq)]
+#[derive(Clone, Copy)]
 pub struct ReplayCommand {
     /// The word that names the specification.
     pub specification: usize,

@@ -4,7 +4,7 @@ use lola_model::journal::Show;
 use lola_value::list::ListOf;
 
 /// What the sources of a run hand their rows in at.
-#[derive(Clone, Copy, Debug, PartialEq, Eq)]
+#[derive(Clone, Copy)]
 pub enum IntakeKind {
     /// A merge object round which there is a lock.
     Lock,
@@ -13,7 +13,7 @@ pub enum IntakeKind {
 }
 
 /// Where a name stands on the command line: the number of its word, and how many bytes of the word stand before it.
-#[derive(Clone, Copy, Debug, PartialEq, Eq)]
+#[derive(Clone, Copy)]
 pub struct NamePlace {
     /// The number of the word, from 0 for the program's name.
     pub word: usize,
@@ -22,7 +22,7 @@ pub struct NamePlace {
 }
 
 /// A name, or an option with its value.
-#[derive(Clone, Copy, Debug, PartialEq, Eq)]
+#[derive(Clone, Copy)]
 pub enum Said {
     /// A name, by the number of its word, from 0 for the program's name.
     Name(usize),
@@ -41,7 +41,7 @@ pub enum Said {
 }
 
 /// What one word says where it stands.
-#[derive(Clone, Copy, Debug, PartialEq, Eq)]
+#[derive(Clone, Copy)]
 pub enum WordSense {
     /// `--`: all words behind it are names.
     Dashes,

@@ -5,7 +5,7 @@ use lola_value::text::Memory;
 use lola_value::value::FaultKind;
 
 /// What ends a run before its sources have ended.
-#[derive(Clone, Copy, Debug, PartialEq, Eq)]
+#[derive(Clone, Copy)]
 pub enum Stop {
     /// A step has a fault: the stream, the fault's kind, and the step's time in nanoseconds.
     Fault {

@@ -47,7 +47,7 @@ struct Place {
 }
 
 /// What the thread of a source saw when it looked at the board: up to which cell it may go on without another look.
-#[derive(Clone, Copy, Debug)]
+#[derive(Clone, Copy)]
 pub struct Watch {
     limit: u64,
     limit_source: u32,

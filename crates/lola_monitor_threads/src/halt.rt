@@ -3,7 +3,7 @@
 use lola_monitor_run::stop::Stop;
 
 /// What ends the taking of rows before all sources have ended.
-#[derive(Clone, Copy, Debug, PartialEq, Eq)]
+#[derive(Clone, Copy)]
 pub enum Halt {
     /// The run was stopped.
     Stopped(Stop),

@@ -11,7 +11,7 @@ use lola_value::text::Memory;
 use std::alloc::Global;
 
 /// What a name stands for, by number.
-#[derive(Clone, Copy, Debug, PartialEq, Eq)]
+#[derive(Clone, Copy)]
 pub enum Target {
     /// An input: the number of its stream, and its number among the inputs.
     Input(u32, u32),
@@ -27,7 +27,7 @@ pub enum Target {
 pub type TargetTable = NameTable<Target>;
 
 /// How many streams, inputs and declarations stand before.
-#[derive(Clone, Copy, Debug)]
+#[derive(Clone, Copy)]
 struct Counts {
     streams: u32,
     inputs: u32,

@@ -3,7 +3,7 @@
 use crate::table::NameTable;
 
 /// What a name means.
-#[derive(Clone, Copy, Debug, PartialEq, Eq)]
+#[derive(Clone, Copy)]
 pub enum Meaning {
     /// An input.
     Input,

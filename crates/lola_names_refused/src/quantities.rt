@@ -75,7 +75,7 @@ pub fn span(q: &Quantity) -> u64
 }
 
 /// A fraction.
-#[derive(Clone, Copy, Debug)]
+#[derive(Clone, Copy)]
 struct Fraction {
     num: u128,
     den: u128,

@@ -7,7 +7,7 @@ use lola_value::text::Memory;
 use std::alloc::AllocFailed;
 
 /// What ends the search for a normal form.
-#[derive(Clone, Copy, Debug, PartialEq, Eq)]
+#[derive(Clone, Copy)]
 pub enum NormalEnd {
     /// It has more than 256 sets.
     TooWide,

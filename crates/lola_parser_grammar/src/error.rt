@@ -7,7 +7,7 @@ use lola_value::text::Memory;
 use std::alloc::{AllocError, AllocFailed};
 
 /// What ends the reading of a part. The parser then stands at the token that is refused.
-#[derive(Clone, Copy, Debug, PartialEq, Eq)]
+#[derive(Clone, Copy)]
 pub enum ParseError {
     Memory,
     Unexpected,

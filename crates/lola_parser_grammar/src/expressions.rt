@@ -4,7 +4,7 @@ use crate::literals::{Literal, Name, Quantity};
 use sqlite_items::{Boxed, Items};
 
 /// An operator before an operand.
-#[derive(Clone, Copy, Debug, PartialEq, Eq)]
+#[derive(Clone, Copy)]
 pub enum Prefix {
     /// `!`
     Not,
@@ -13,7 +13,7 @@ pub enum Prefix {
 }
 
 /// An operator between two operands.
-#[derive(Clone, Copy, Debug, PartialEq, Eq)]
+#[derive(Clone, Copy)]
 pub enum Binary {
     /// `||`
     Or,

@@ -36,7 +36,7 @@ pub struct Literal {
 }
 
 /// A unit of time or of frequency.
-#[derive(Clone, Copy, Debug, PartialEq, Eq)]
+#[derive(Clone, Copy)]
 pub enum QuantityUnit {
     /// `ns`
     Nanoseconds,
@@ -63,7 +63,7 @@ pub enum QuantityUnit {
 }
 
 /// A duration or a rate as it is written: the number `digits` with its last `decimals` digits behind the point.
-#[derive(Clone, Copy, Debug, PartialEq, Eq)]
+#[derive(Clone, Copy)]
 pub struct Quantity {
     /// The number that all its digits spell, the point left out.
     pub digits: u128,

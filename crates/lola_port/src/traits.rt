@@ -10,7 +10,7 @@ use crate::bell::Bell;
 use lola_value::text::Text;
 
 /// A read that failed: no bytes were moved, and the source's count rose.
-#[derive(Clone, Copy, Debug, PartialEq, Eq)]
+#[derive(Clone, Copy)]
 pub struct ReadFailed;
 
 /// Bytes in order, with an end: at most 2^62 are still to come of a source that was just fetched. A source has a
@@ -64,7 +64,7 @@ pub struct Ask {
 }
 
 /// Why no source was given: the fetch failed, and the shelf's count rose, or there was no memory, and nothing changed.
-#[derive(Clone, Copy, Debug, PartialEq, Eq)]
+#[derive(Clone, Copy)]
 pub enum FetchEnd {
     Failed,
     Memory,
@@ -100,7 +100,7 @@ pub trait Shelf {
 
 /// Why not all bytes were taken: the put failed, only a part was taken, and the sink's count rose, or there was no
 /// memory, and nothing was taken.
-#[derive(Clone, Copy, Debug, PartialEq, Eq)]
+#[derive(Clone, Copy)]
 pub enum PutEnd {
     Failed,
     Memory,

@@ -9,7 +9,7 @@ use lola_value::numbers::number_text;
 use lola_value::text::{Memory, Text};
 
 /// How a replay ended, once its specification was read and accepted.
-#[derive(Clone, Copy, Debug, PartialEq, Eq)]
+#[derive(Clone, Copy)]
 pub enum ReplayEnd {
     /// Both texts were read, and this was found of them.
     Found(Finding),

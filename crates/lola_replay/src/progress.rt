@@ -38,7 +38,7 @@ pub struct Course<'a> {
 }
 
 /// The fault of a run.
-#[derive(Clone, Copy, Debug, PartialEq, Eq)]
+#[derive(Clone, Copy)]
 pub struct Fault {
     /// The stream that has it, by its number from 0.
     pub stream: usize,

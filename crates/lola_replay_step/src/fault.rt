@@ -12,7 +12,7 @@ use lola_replay_table::table::{KeptSpawn, KnownLife, KnownStream};
 use lola_value::value::FaultKind;
 
 /// A fault in a step: the stream that has it, by its number from 0, and its kind.
-#[derive(Clone, Copy, Debug, PartialEq, Eq)]
+#[derive(Clone, Copy)]
 pub struct StepFault {
     pub stream: usize,
     pub kind: FaultKind,

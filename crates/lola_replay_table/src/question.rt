@@ -3,7 +3,7 @@
 use lola_value::text::Memory;
 
 /// A question of a step.
-#[derive(Clone, Copy, Debug, PartialEq, Eq)]
+#[derive(Clone, Copy)]
 pub enum Question {
     /// What the spawn clause of this stream does.
     SpawnOf(usize),
@@ -12,7 +12,7 @@ pub enum Question {
 }
 
 /// Why a try gave no outcome.
-#[derive(Clone, Copy, Debug, PartialEq, Eq)]
+#[derive(Clone, Copy)]
 pub enum Unanswered {
     /// This question has to be answered first.
     Asks(Question),

@@ -16,7 +16,7 @@ use std::alloc::Global;
 use thiserror::Error;
 
 /// Why a text gave no journal.
-#[derive(Clone, Copy, Debug, PartialEq, Eq, Error)]
+#[derive(Clone, Copy, Debug, Error)]
 pub enum JournalEnd {
     /// The first line, counted from 1, that tells no entry.
     #[error("line {0} of the trace is no trace line")]

@@ -5,7 +5,7 @@ use lola_model::source::MalformedKind;
 use lola_value::text::Memory;
 
 /// How a reader ended.
-#[derive(Clone, Copy, Debug, PartialEq, Eq)]
+#[derive(Clone, Copy)]
 pub enum Ending {
     /// All rows were given.
     End,

@@ -25,7 +25,7 @@ pub(crate) struct Input {
 }
 
 /// Where an input's values come from: its field, if the heading names it.
-#[derive(Clone, Copy, Debug)]
+#[derive(Clone, Copy)]
 pub(crate) struct Column {
     pub(crate) kind: Kind,
     pub(crate) place: Option<usize>,
@@ -64,7 +64,7 @@ enum Wanted<'a> {
 }
 
 /// Where it was found.
-#[derive(Clone, Copy, Debug)]
+#[derive(Clone, Copy)]
 enum Places {
     Nowhere,
     At(usize),

@@ -17,7 +17,7 @@ pub(crate) const MOST_HELD: usize = 65539;
 const LEAST_READ: usize = 4096;
 
 /// What stands at the front of a buffer.
-#[derive(Clone, Copy, Debug)]
+#[derive(Clone, Copy)]
 pub(crate) enum Filled {
     /// A line of so many bytes, and its end.
     Line(usize),

@@ -6,7 +6,7 @@ use lola_value::text::Memory;
 use std::alloc::{AllocError, AllocFailed};
 
 /// A line is malformed, or there was no memory for what it gives.
-#[derive(Clone, Copy, Debug, PartialEq, Eq)]
+#[derive(Clone, Copy)]
 pub(crate) enum Flaw {
     Malformed(MalformedKind),
     Memory,

@@ -23,7 +23,7 @@ use lola_value::value::Kind;
 use std::alloc::Global;
 
 /// What the rows of a source have to be: the number of the source, and the most rows.
-#[derive(Clone, Copy, Debug)]
+#[derive(Clone, Copy)]
 pub(crate) struct Form {
     pub(crate) index: u32,
     pub(crate) most: u64,

@@ -11,7 +11,7 @@ use lola_port::Source;
 
 /// A line at the front of a buffer: how many bytes stand before its line feed, how many of them are its text, and how
 /// many are to be taken with it.
-#[derive(Clone, Copy, Debug)]
+#[derive(Clone, Copy)]
 pub(crate) struct Extent {
     pub(crate) size: usize,
     pub(crate) text: usize,
@@ -34,7 +34,7 @@ impl Extent {
 }
 
 /// What was found.
-#[derive(Clone, Copy, Debug)]
+#[derive(Clone, Copy)]
 pub(crate) enum Found {
     /// A line.
     Line(Extent),

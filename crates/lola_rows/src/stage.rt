@@ -1,7 +1,7 @@
 //! How far a reader is.
 
 /// What a reader looks at next.
-#[derive(Clone, Copy, Debug, PartialEq, Eq)]
+#[derive(Clone, Copy)]
 pub enum Section {
     /// The first bytes of the source, which may be a byte order mark.
     Start,

@@ -8,7 +8,7 @@ use lola_value::numbers::number_text;
 use lola_value::text::{Memory, Text};
 
 /// Why no run goes on from a state, or none is saved.
-#[derive(Clone, Copy, Debug, PartialEq, Eq)]
+#[derive(Clone, Copy)]
 pub enum StateEnd {
     /// The state was not given, or could not be read.
     Unreadable,

@@ -10,7 +10,7 @@ use crate::cuts::{behind, line_behind};
 use crate::words::is_decimal;
 
 /// Why bytes are no state text of a specification, as far as the lines before those of the state tell it.
-#[derive(Clone, Copy, Debug, PartialEq, Eq)]
+#[derive(Clone, Copy)]
 pub enum HeadEnd {
     /// They are damaged at this line, counted from 1.
     Damaged(u64),

@@ -14,7 +14,7 @@ use lola_value::text::Memory;
 use std::alloc::Global;
 
 /// Why no state is read of bytes.
-#[derive(Clone, Copy, Debug, PartialEq, Eq)]
+#[derive(Clone, Copy)]
 pub enum ReadEnd {
     /// They are damaged at this line, counted from 1 over all lines: it is the first with which no state text of the plan goes on.
     Damaged(u64),

@@ -11,7 +11,7 @@ use lola_value::value::Kind;
 use std::alloc::Global;
 
 /// A window onto a stream.
-#[derive(Clone, Copy, Debug)]
+#[derive(Clone, Copy)]
 pub struct WindowForm {
     /// Its number in the plan.
     pub number: usize,

@@ -39,7 +39,7 @@ pub type SavedInstances = ListOf<SavedInstance>;
 pub type SavedStreams = ListOf<SavedInstances>;
 
 /// What all of a state is measured by.
-#[derive(Clone, Copy, Debug, PartialEq, Eq)]
+#[derive(Clone, Copy)]
 pub struct Times {
     /// The start of the run in nanoseconds, where there is one.
     pub start: Option<u64>,

@@ -25,7 +25,7 @@ use lola_value::short::Short;
 use lola_value::value::{FaultKind, Outcome, Params, Value};
 
 /// What a spawn clause asks for.
-#[derive(Clone, Copy, Debug, PartialEq, Eq)]
+#[derive(Clone, Copy)]
 pub enum Spawning {
     /// Its condition is not true, or a parameter has no value.
     Idle,

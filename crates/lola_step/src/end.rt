@@ -3,7 +3,7 @@
 use lola_value::value::FaultKind;
 
 /// How a step ends.
-#[derive(Clone, Copy, Debug, PartialEq, Eq)]
+#[derive(Clone, Copy)]
 pub enum StepEnd {
     /// All streams are evaluated, and instances are closed.
     Done,

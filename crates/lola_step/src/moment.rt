@@ -16,7 +16,7 @@ use lola_value::value::Outcome;
 
 /// The moment of a step: where time counts from and its time, in nanoseconds, and at a row's step the set of the inputs that
 /// have a value, input `i` as bit `i`. At a deadline's step there is no such set.
-#[derive(Clone, Copy, Debug)]
+#[derive(Clone, Copy)]
 pub struct Moment {
     pub start: u64,
     pub time: u64,
@@ -69,7 +69,7 @@ fn is_deadline(rate: &Rate, after: u64) -> bool
 
 /// The rate that was looked at last at a moment, and whether the moment is one of its deadlines: the streams of a step mostly have one
 /// rate, and then it is reckoned once.
-#[derive(Clone, Copy, Debug)]
+#[derive(Clone, Copy)]
 pub(crate) struct LastRate {
     rate: Option<Rate>,
     is_due: bool,

@@ -17,7 +17,7 @@ use lola_value::text::Memory;
 use std::alloc::Global;
 
 /// What a stream may have to do in a step: its duties.
-#[derive(Clone, Copy, Debug, PartialEq, Eq)]
+#[derive(Clone, Copy)]
 pub enum Duty {
     /// It is an input.
     Input,

@@ -26,7 +26,7 @@ use std::alloc::Global;
 const MOST_WORKERS: usize = 64;
 
 /// Where the outcomes of a stream's instances stand among the results, and the instances among the tasks.
-#[derive(Clone, Copy, Debug)]
+#[derive(Clone, Copy)]
 pub struct Span {
     pub from: usize,
     pub count: usize,

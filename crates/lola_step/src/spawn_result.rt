@@ -3,7 +3,7 @@
 use lola_value::value::FaultKind;
 
 /// What a spawn clause did, as far as faults go.
-#[derive(Clone, Copy, Debug, PartialEq, Eq)]
+#[derive(Clone, Copy)]
 pub enum SpawnResult {
     /// Nothing, or it named an instance.
     Fine,

@@ -28,7 +28,7 @@ use lola_workers::{Share, run_layer};
 use std::thread::Threads;
 
 /// An instance to evaluate: its stream, and its place among the stream's instances.
-#[derive(Clone, Copy, Debug, PartialEq, Eq)]
+#[derive(Clone, Copy)]
 pub struct Task {
     pub stream: u32,
     pub index: u32,

@@ -9,7 +9,7 @@ use lola_value::value::TextId;
 use std::hash::RandomState;
 
 /// The number of a text, and the flag that the newest sweep left.
-#[derive(Clone, Copy, Debug)]
+#[derive(Clone, Copy)]
 pub(crate) struct Held {
     pub(crate) number: u64,
     pub(crate) flag: bool,

@@ -11,7 +11,7 @@ use lola_model::spec::{Agg, WindowSpec};
 use lola_value::value::{Kind, Value};
 
 /// What a part of an expression is, as far as the kinds of streams are found.
-#[derive(Clone, Copy, Debug, PartialEq, Eq)]
+#[derive(Clone, Copy, PartialEq)]
 pub enum Found {
     /// Of this kind, and whether it is certain: one that is not may have no value in a step.
     Of(Kind, bool),

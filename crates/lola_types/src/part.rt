@@ -12,7 +12,7 @@ use lola_model::spec::WindowSpec;
 use lola_value::value::Kind;
 
 /// What the arguments of an access are together.
-#[derive(Clone, Copy, Debug)]
+#[derive(Clone, Copy)]
 pub struct Fitting {
     /// Some argument is broken.
     pub broken: bool,

@@ -23,7 +23,7 @@ fn exact(short: Short) -> Short
 }
 
 /// An outcome in 16 bytes, for what keeps or hands on many. Contracts see the outcome.
-#[derive(Clone, Copy, PartialEq, Eq)]
+#[derive(Clone, Copy)]
 pub struct Brief {
     short: Short,
 }
@@ -112,7 +112,7 @@ impl Brief {
 }
 
 /// A value in 16 bytes. Contracts see the value.
-#[derive(Clone, Copy, PartialEq, Eq)]
+#[derive(Clone, Copy)]
 pub struct BriefValue {
     short: Short,
 }

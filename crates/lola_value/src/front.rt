@@ -5,7 +5,7 @@ use thiserror::Error;
 
 /// Why a specification is refused. The codes E1 to E19 and E21 have these numbers, as `code as u8` tells them. E20 was
 /// a form that was not built yet, and is not used again.
-#[derive(Clone, Copy, Debug, PartialEq, Eq)]
+#[derive(Clone, Copy, Debug)]
 pub enum Code {
     /// E1: it has more than 1,048,576 bytes.
     TooLong = 1,
@@ -50,14 +50,14 @@ pub enum Code {
 }
 
 /// A refusal: its code, and the position in the specification, in bytes from 0, at which it stands.
-#[derive(Clone, Copy, Debug, PartialEq, Eq)]
+#[derive(Clone, Copy, Debug)]
 pub struct Refusal {
     pub code: Code,
     pub at: u32,
 }
 
 /// Why a phase of the compiler gave nothing: it refuses the specification, or there was no memory.
-#[derive(Clone, Copy, Debug, PartialEq, Eq, Error)]
+#[derive(Clone, Copy, Debug, Error)]
 pub enum FrontEnd {
     #[error("the specification is refused at byte {}", .0.at)]
     Refused(Refusal),

@@ -11,7 +11,7 @@ use crate::value::{FaultKind, Outcome, TextId, Value};
 
 /// An outcome in 16 bytes: one that says its sort, and a number of 64 bits, of which no kind has more. An `Outcome` has 48, since its
 /// numbers have 128 bits, in which all arithmetic is exact. Truth values and faults are sorts of their own, so that a copy is two words.
-#[derive(Clone, Copy, Debug, PartialEq, Eq)]
+#[derive(Clone, Copy)]
 pub enum Short {
     False,
     True,

@@ -8,7 +8,7 @@ use std::marker::Model;
 
 /// There is no memory for what was asked. Nothing ties it to how much there is: every call that takes memory may
 /// answer it.
-#[derive(Clone, Copy, Debug, PartialEq, Eq)]
+#[derive(Clone, Copy, Debug)]
 pub struct Memory;
 
 impl From<AllocError> for Memory {

@@ -11,7 +11,7 @@ use lola_value::text::Memory;
 use std::alloc::Global;
 
 /// Tasks that follow on one another: the number of the first, how many there are, and where their outcomes stand in the share.
-#[derive(Clone, Copy, Debug)]
+#[derive(Clone, Copy)]
 pub(crate) struct Piece {
     pub(crate) start: usize,
     pub(crate) count: usize,

@@ -6,7 +6,7 @@ ghost use Rattle.lola_lexer.specs.Lexical as lexical;
 ghost use Rattle.lola_lexer.specs.Spelling as spelled;
 
 /// The bytes that a run has.
-#[derive(Clone, Copy, Debug)]
+#[derive(Clone, Copy)]
 pub enum Class {
     /// Letters, digits and `_`, ASCII all of them.
     Name,

@@ -3,7 +3,7 @@
 use crate::shape::TokenShape;
 
 /// What stands at the front of the bytes, with its length in bytes.
-#[derive(Clone, Copy, Debug)]
+#[derive(Clone, Copy)]
 pub enum Thing {
     /// A blank or a comment.
     Gap(usize),
