@@ -12,8 +12,8 @@ ghost use Rattle.lola_instances.specs.Restoring.{FollowsStart, HasPanesOf, IsIns
 ghost use Rattle.lola_instances.specs.Saved.{instance_at, panes_at, places_in};
 ghost use Rattle.lola_instances.specs.Stores.{bounded_seen, bounded_remembers};
 
-use crate::reading::{place_of_panes, spec_of};
 use crate::phase::{StorePhase, start_of, time_of, time_since};
+use crate::reading::{place_of_panes, spec_of};
 use crate::store::{BoundedStore, offset_of};
 use lola_instances_stream::instances::Instances;
 use lola_panes::partial::Partial;
