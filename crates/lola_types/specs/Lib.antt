@@ -3,3 +3,4 @@ pub mod LeftOut
 pub mod Refused
 pub mod Around
 pub mod Filled
+pub mod Assembled

@@ -1,10 +1,12 @@
 //! Expressions with their kinds filled in.
 #![tactic(auto, using(crate::proofs::SameLemmas::same_filled_if_free, crate::proofs::Arguments::fit_first))]
 
-ghost use Rattle.std.specs.Prelude.{◌≡◌, IfOk};
+ghost use Rattle.std.specs.Prelude.{◌≡◌, ◌||◌, ◌&&◌, IfOk};
 ghost use Rattle.lola_types.specs.Around.{setting};
-ghost use Rattle.lola_types.specs.Found.{found as found_in, found_all, some_broken, arguments_fit};
+ghost use Rattle.lola_types.specs.Found.{found as found_in, found_all, joint, defaults_part, prefix_part, binary_part, choice_part, is_broken, is_fitting, some_broken, arguments_fit};
+ghost use Rattle.lola_types.specs.Refused.{taken as kind_taken, operand_kind as kind_of_operands};
 ghost use Rattle.lola_types.specs.Filled.{note_part, given_kind, filled_if_free, filled, filled_all, SameTree, SameArguments};
+ghost use Rattle.lola_types.specs.Assembled.{IsDefaults, IsUnary, IsBoth, IsChoice, IsMore};
 
 use crate::around::Around;
 use crate::found::{self, Found};
@@ -13,7 +15,7 @@ use crate::part::{
     window, with_first,
 };
 use crate::refused::{operand_kind, taken};
-use lola_model::expr::{Arguments, Expr, Place};
+use lola_model::expr::{Arguments, Binary, Expr, Place, Prefix};
 use lola_value::text::Memory;
 use lola_value::value::Kind;
 use std::alloc::Global;
@@ -93,6 +95,85 @@ fn boxed(alloc: Global, kind: Option<Kind>, operand: Filled) -> Result<Box<Expr>
     Ok(Box::new(alloc, expr)?)
 }
 
+/// An expression with another in its place where it has no value, over operands with their kinds filled in.
+fn defaults(alloc: Global, place: Place, first: Filled, second: Filled) -> Result<Filled, Memory>
+    ensures tree { IfOk result (λ f. IsDefaults (note_part place f.part) (kind_taken f.part) first second f.expr) }
+    ensures part { IfOk result (λ f. f.part ≡ defaults_part first.part second.part) }
+{
+    let part = found::defaults(first.part, second.part);
+    let a = boxed(alloc, taken(part), first)?;
+    let b = boxed(alloc, taken(part), second)?;
+    let expr = Expr::Defaults(noted(place, part), a, b);
+    Ok(Filled { expr, part })
+}
+
+/// An operator before its operand, whose kinds are filled in.
+fn unary(alloc: Global, place: Place, operator: Prefix, operand: Filled) -> Result<Filled, Memory>
+    ensures tree { IfOk result (λ f. IsUnary (note_part place f.part) operator (kind_taken f.part) operand f.expr) }
+    ensures part { IfOk result (λ f. f.part ≡ prefix_part operator operand.part) }
+{
+    let part = found::prefix(operator, operand.part);
+    let a = boxed(alloc, taken(part), operand)?;
+    let expr = Expr::Unary(noted(place, part), operator, a);
+    Ok(Filled { expr, part })
+}
+
+/// An operator between its operands, whose kinds are filled in.
+fn both(
+    alloc: Global,
+    place: Place,
+    operator: Binary,
+    first: Filled,
+    second: Filled,
+) -> Result<Filled, Memory>
+    ensures tree { IfOk result (λ f. IsBoth (note_part place f.part) operator (kind_of_operands operator f.part (joint first.part second.part)) first second f.expr) }
+    ensures part { IfOk result (λ f. f.part ≡ binary_part operator first.part second.part) }
+{
+    let part = found::binary(operator, first.part, second.part);
+    let kind = operand_kind(operator, part, first.part.joint(second.part));
+    let a = boxed(alloc, kind, first)?;
+    let b = boxed(alloc, kind, second)?;
+    let expr = Expr::Both(noted(place, part), operator, a, b);
+    Ok(Filled { expr, part })
+}
+
+/// A condition with what holds where it is true and where it is false, their kinds filled in.
+fn choice(
+    alloc: Global,
+    place: Place,
+    test: Filled,
+    first: Filled,
+    second: Filled,
+) -> Result<Filled, Memory>
+    ensures tree { IfOk result (λ f. IsChoice (note_part place f.part) (kind_taken f.part) test first second f.expr) }
+    ensures part { IfOk result (λ f. f.part ≡ choice_part test.part first.part second.part) }
+{
+    let part = found::choice(test.part, first.part, second.part);
+    let t = boxed(alloc, None, test)?;
+    let a = boxed(alloc, taken(part), first)?;
+    let b = boxed(alloc, taken(part), second)?;
+    let expr = Expr::Choice(noted(place, part), t, a, b);
+    Ok(Filled { expr, part })
+}
+
+/// An argument for a parameter of this kind before other arguments, their kinds filled in.
+fn more(
+    alloc: Global,
+    want: Option<Kind>,
+    argument: Filled,
+    others: FilledArguments,
+) -> Result<FilledArguments, Memory>
+    ensures tree { IfOk result (λ f. IsMore want argument others.arguments f.arguments) }
+    ensures broken { IfOk result (λ f. f.fitting.broken ≡ (is_broken argument.part || others.fitting.broken)) }
+    ensures fits { IfOk result (λ f. f.fitting.fits ≡ (is_fitting argument.part want && others.fitting.fits)) }
+{
+    let fitting = with_first(argument.part, want, others.fitting);
+    let rest = Box::new(alloc, others.arguments)?;
+    let first = boxed(alloc, want, argument)?;
+    let arguments = Arguments::More(first, rest);
+    Ok(FilledArguments { arguments, fitting })
+}
+
 /// An expression with its kinds filled in, and what it is. A free part takes its kind from what is around it.
 #[cycle(fill)]
 pub fn fill(alloc: Global, around: &Around, expr: &Expr) -> Result<Filled, Memory>
@@ -130,39 +211,22 @@ pub fn fill(alloc: Global, around: &Around, expr: &Expr) -> Result<Filled, Memor
         Expr::Defaults(place, a, b) => {
             let first = fill(alloc, around, a)?;
             let second = fill(alloc, around, b)?;
-            let part = found::defaults(first.part, second.part);
-            let a = boxed(alloc, taken(part), first)?;
-            let b = boxed(alloc, taken(part), second)?;
-            let expr = Expr::Defaults(noted(*place, part), a, b);
-            Ok(Filled { expr, part })
+            defaults(alloc, *place, first, second)
         }
         Expr::Unary(place, operator, a) => {
-            let first = fill(alloc, around, a)?;
-            let part = found::prefix(*operator, first.part);
-            let a = boxed(alloc, taken(part), first)?;
-            let expr = Expr::Unary(noted(*place, part), *operator, a);
-            Ok(Filled { expr, part })
+            let operand = fill(alloc, around, a)?;
+            unary(alloc, *place, *operator, operand)
         }
         Expr::Both(place, operator, a, b) => {
             let first = fill(alloc, around, a)?;
             let second = fill(alloc, around, b)?;
-            let part = found::binary(*operator, first.part, second.part);
-            let kind = operand_kind(*operator, part, first.part.joint(second.part));
-            let a = boxed(alloc, kind, first)?;
-            let b = boxed(alloc, kind, second)?;
-            let expr = Expr::Both(noted(*place, part), *operator, a, b);
-            Ok(Filled { expr, part })
+            both(alloc, *place, *operator, first, second)
         }
         Expr::Choice(place, t, a, b) => {
             let test = fill(alloc, around, t)?;
             let first = fill(alloc, around, a)?;
             let second = fill(alloc, around, b)?;
-            let part = found::choice(test.part, first.part, second.part);
-            let t = boxed(alloc, None, test)?;
-            let a = boxed(alloc, taken(part), first)?;
-            let b = boxed(alloc, taken(part), second)?;
-            let expr = Expr::Choice(noted(*place, part), t, a, b);
-            Ok(Filled { expr, part })
+            choice(alloc, *place, test, first, second)
         }
     }
 }
@@ -191,11 +255,7 @@ fn fill_arguments(
             let want = wants.first().copied();
             let others = fill_arguments(alloc, around, rest, behind(wants))?;
             let argument = fill(alloc, around, first)?;
-            let fitting = with_first(argument.part, want, others.fitting);
-            let rest = Box::new(alloc, others.arguments)?;
-            let first = boxed(alloc, want, argument)?;
-            let arguments = Arguments::More(first, rest);
-            Ok(FilledArguments { arguments, fitting })
+            more(alloc, want, argument, others)
         }
     }
 }
