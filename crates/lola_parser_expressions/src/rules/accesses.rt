@@ -151,20 +151,38 @@ impl<F: Fn(Global, &mut Parser<'_>, bool, usize) -> Result<Expr, ParseError>> Ru
         Ok((bracket, all))
     }
 
+    /// `or: e`.
+    #[tactic(auto, unfolding(lola_parser_grammar::specs::Syntax::read, lola_parser_grammar::specs::Syntax::first, lola_parser_grammar::specs::Syntax::nullable))]
+    fn other_value(&self, parser: &mut Parser<'_>) -> Result<Expr, ParseError>
+        requires { Nests self.now.depth (F.pre self.now.nested) (F.post self.now.nested) }
+        ensures { IsRead (spec.word (codes "or") *> spec.token is.Colon *> spec.expr_in self.now.depth) parser.old result parser.new }
+    {
+        parser.word(b"or")?;
+        parser.take(TokenShape::Colon)?;
+        let found = self.expr(parser)?;
+        Ok(found)
+    }
+
+    #[tactic(auto, unfolding(lola_parser_grammar::specs::Syntax::read, lola_parser_grammar::specs::Syntax::first, lola_parser_grammar::specs::Syntax::nullable, lola_parser_grammar::specs::Grammar::word))]
+    fn maybe_other_value(&self, parser: &mut Parser<'_>) -> Result<Option<Expr>, ParseError>
+        requires { Nests self.now.depth (F.pre self.now.nested) (F.post self.now.nested) }
+        ensures { IsRead (Maybe (spec.word (codes "or") *> spec.token is.Colon *> spec.expr_in self.now.depth)) parser.old result parser.new }
+    {
+        if parser.sees_word(b"or") {
+            Ok(Some(self.other_value(parser)?))
+        } else {
+            Ok(None)
+        }
+    }
+
     /// In brackets, what stands in where there is no value, if it is written.
-    #[tactic(auto, unfolding(lola_parser_grammar::specs::Syntax::read, lola_parser_grammar::specs::Syntax::first, lola_parser_grammar::specs::Syntax::nullable, lola_parser_grammar::specs::Grammar::stand_in, lola_parser_grammar::specs::Grammar::word))]
+    #[tactic(auto, unfolding(lola_parser_grammar::specs::Syntax::read, lola_parser_grammar::specs::Syntax::first, lola_parser_grammar::specs::Syntax::nullable, lola_parser_grammar::specs::Grammar::stand_in))]
     fn stand_in(&self, parser: &mut Parser<'_>) -> Result<Option<Expr>, ParseError>
         requires { Nests self.now.depth (F.pre self.now.nested) (F.post self.now.nested) }
         ensures { IsRead (spec.stand_in (spec.expr_in self.now.depth) (spec.other_in self.now.depth)) parser.old result parser.new }
     {
         parser.nesting(TokenShape::Open)?;
-        let found = if parser.sees_word(b"or") {
-            parser.word(b"or")?;
-            parser.take(TokenShape::Colon)?;
-            Some(self.expr(parser)?)
-        } else {
-            None
-        };
+        let found = self.maybe_other_value(parser)?;
         parser.take(TokenShape::Shut)?;
         Ok(found)
     }
