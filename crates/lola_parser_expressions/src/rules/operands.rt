@@ -43,6 +43,17 @@ impl<F: Fn(Global, &mut Parser<'_>, bool, usize) -> Result<Expr, ParseError>> Ru
         Ok(found)
     }
 
+    /// A point, and the default behind it.
+    #[tactic(auto, unfolding(lola_parser_grammar::specs::Syntax::read, lola_parser_grammar::specs::Syntax::first, lola_parser_grammar::specs::Syntax::nullable, lola_parser_grammar::specs::Grammar::dotted_default))]
+    fn dotted_default(&self, parser: &mut Parser<'_>) -> Result<(u32, Expr), ParseError>
+        requires { Nests self.now.depth (F.pre self.now.nested) (F.post self.now.nested) }
+        ensures { IsRead (spec.dotted_default (spec.expr_in self.now.depth) (spec.other_in self.now.depth)) parser.old result parser.new }
+    {
+        let dot = parser.nesting(TokenShape::Dot)?;
+        let other = self.default(parser)?;
+        Ok((dot, other))
+    }
+
     /// The defaults behind an operand.
     #[tactic(auto, unfolding(lola_parser_grammar::specs::Syntax::read, lola_parser_grammar::specs::Syntax::first, lola_parser_grammar::specs::Syntax::nullable, lola_parser_grammar::specs::Grammar::defaults, lola_parser_grammar::specs::Grammar::dotted_default, lola_parser_grammar::specs::Grammar::nesting))]
     pub(crate) fn with_defaults(
@@ -58,8 +69,7 @@ impl<F: Fn(Global, &mut Parser<'_>, bool, usize) -> Result<Expr, ParseError>> Ru
             if !parser.sees(TokenShape::Dot) {
                 return Ok(left);
             }
-            let dot = parser.nesting(TokenShape::Dot)?;
-            let other = self.default(parser)?;
+            let (dot, other) = self.dotted_default(parser)?;
             left = defaults(self.alloc, dot, left, other)?;
         }
         Ok(left)
